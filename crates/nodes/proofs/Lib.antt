@@ -1,0 +1,5 @@
+pub mod Bit
+pub mod Chosen
+pub mod Counts
+pub mod Emptiness
+pub mod Inside
