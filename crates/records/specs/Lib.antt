@@ -1,0 +1,6 @@
+pub mod Words
+pub mod Checks
+pub mod Refusals
+pub mod Tables
+pub mod Sums
+pub mod Meaning

@@ -1,0 +1,11 @@
+use mathlib.Core.Path.{_≡_}
+use Prim.Native.Nat.{ℕ, _<_}
+use lib.ListN.{getD, length}
+use Rattle.records.specs.Meaning.{sum-bytes-of}
+use Rattle.records.specs.Sums.{sum-width}
+use Rattle.sums.specs.Sums.{mask}
+use Rattle.sums.specs.Files.{sum-at}
+use Rattle.sums.proofs.problem.Sums.new.Given as given
+
+abbrev pub Inv-loop-k : given.InvT-loop-k
+Inv-loop-k l = (length (l .touched) ≡ 64) × ((j : ℕ) → j < l .k → getD (l .touched) j 0 ≡ mask (sum-at (sum-bytes-of (l .view)) j) (sum-width (sum-bytes-of (l .view))))

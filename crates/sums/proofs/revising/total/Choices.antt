@@ -1,0 +1,13 @@
+use Prim.Native.Nat.{_*_}
+use mathlib.Core.Path.{_≡_}
+use lib.IntN.{pos, negℤ}
+use lib.Signed.{_≤ℤ_}
+use Rattle.records.specs.Meaning.{sum-bytes-of}
+use Rattle.records.specs.Sums.{coefficient-at}
+use Rattle.sums.specs.Sums.{totals}
+use Rattle.sums.proofs.revising.total.Given as given
+
+abbrev pub Inv-loop-j : given.InvT-loop-j
+Inv-loop-j l =
+    (l .sum ≡ totals (coefficient-at (sum-bytes-of (l .view)) (l .k)) (l .node .words) (l .j))
+    × (negℤ (pos (31000000 * l .j)) ≤ℤ l .sum) × (l .sum ≤ℤ pos (31000000 * l .j))

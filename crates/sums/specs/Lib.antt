@@ -1,0 +1,5 @@
+pub mod Sums
+pub mod Steps
+pub mod Files
+pub mod Meaning
+pub mod Cases
