@@ -11,9 +11,9 @@ use lib.ListN.{getD, length}
 use Rattle.std.proofs.shelf.Tests.{cases-eq, and-parts, and-cases, and-from, and-left, and-right, ltb-true, ltb-false, lt-ltb, le-ltb, eqb-true, eqb-false, eq-eqb, ne-eqb, cond-both, cond-true, cond-false}
 use Rattle.trees.specs.declared.Status.{Status}
 use Rattle.trees.specs.declared.Status.the-variants.{Failed, Solved, Choice}
-use Rattle.nodes.specs.Words.{Fit, Lowest}
+use Rattle.words.specs.Words.{Fit, Lowest}
 use Rattle.nodes.specs.Choosing.{Filled, Empty, Chosen, Says, empty-below, better, fewest, chosen, smallest, status, rest, reach}
-use Rattle.nodes.proofs.Bit.{is-lowest}
+use Rattle.words.proofs.Bit.{is-lowest}
 use Rattle.nodes.proofs.Emptiness.{empty-from, empty-some, filled-none, none-filled}
 use Rattle.nodes.proofs.Counts.{ones-most, ones-pow, ones-none, filled-ones, one-value, within, rest-pos, reach-pos}
 

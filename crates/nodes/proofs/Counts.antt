@@ -12,11 +12,11 @@ use lib.Pow.{pow-pos}
 use Rattle.std.proofs.shelf.Tests.{cases-eq, cases-lt, cases-bool, both-ways, lt-ltb, le-ltb, cond-both, cond-true, cond-false}
 use Rattle.std.proofs.shelf.Bits.{pow-below}
 use Rattle.std.proofs.shelf.Lists.{getD-past}
-use Rattle.nodes.specs.Words.{bit, Inside, Fit}
+use Rattle.words.specs.Words.{bit, Inside, Fit}
 use Rattle.nodes.specs.Choosing.{Filled, Empty, empty-below, surplus, wide, rest, reach}
-use Rattle.nodes.proofs.Bit.{bit-zero, bit-pow-other, trailing-bit, ones-mono, ones-falls}
+use Rattle.words.proofs.Bit.{bit-zero, bit-pow-other, trailing-bit, ones-mono, ones-falls}
 use Rattle.nodes.proofs.Emptiness.{empty-from, empty-some, filled-none, none-filled}
-use Rattle.nodes.proofs.Inside.{inside-le}
+use Rattle.words.proofs.Inside.{inside-le}
 
 -- ---- the values of one word
 

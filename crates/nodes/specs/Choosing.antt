@@ -7,7 +7,7 @@ use lib.Dec.{eqb, ltb}
 use lib.ListN.{getD}
 use Rattle.trees.specs.declared.Status.{Status}
 use Rattle.trees.specs.declared.Status.the-variants.{Failed, Solved, Choice}
-use Rattle.nodes.specs.Words.{Lowest}
+use Rattle.words.specs.Words.{Lowest}
 
 -- ---- in words: what a status says of a node with w variables
 

@@ -4,8 +4,8 @@ ghost use mathlib.Core.Path.{_≡_};
 ghost use Prim.Native.Nat.{ℕ, _<_, _≤_};
 ghost use Rattle.nodes.specs.Choosing.{Says, status, rest, reach, empty-below};
 use crate::node::Node;
-use crate::word::lowest;
 use trees::Status;
+use words::lowest;
 
 /// Whether one of the first words is empty.
 pub fn has_empty(node: &Node, width: usize) -> bool

@@ -1,4 +1,3 @@
-//! Nodes: thirty-two words of values, what a search can see of them, and the values in one word.
+//! Nodes: thirty-two words of values, and what a search can see of them.
 pub mod choosing;
 pub mod node;
-pub mod word;

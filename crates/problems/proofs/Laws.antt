@@ -14,9 +14,9 @@ use Rattle.std.proofs.shelf.Ways.{tells}
 use Rattle.trees.specs.Trees.{Tree, Chooses, Orderly}
 use Rattle.trees.specs.declared.Status.{Status}
 use Rattle.trees.specs.declared.Status.the-variants.{Failed, Solved, Choice}
-use Rattle.nodes.specs.Words.{bit, has, Inside, Fit, Proper}
+use Rattle.words.specs.Words.{bit, has, Inside, Fit, Proper}
 use Rattle.nodes.specs.Choosing.{Filled, Empty, status, chosen, smallest, rest, reach, surplus, wide, empty-below}
-use Rattle.nodes.proofs.Bit.{ones-falls, ones-mono, bit-pow-same}
+use Rattle.words.proofs.Bit.{ones-falls, ones-mono, bit-pow-same}
 use Rattle.nodes.proofs.Emptiness.{empty?, empty-from, filled-none}
 use Rattle.nodes.proofs.Chosen.{status-failed, solved-ones, choice-chosen, choice-is}
 use Rattle.nodes.proofs.Counts.{ones-none, ones-pow, ones-inside, rest-most, reach-most, reach-mono, rest-falls, reach-falls, rest-pos, reach-pos}

@@ -13,10 +13,10 @@ use Rattle.std.proofs.shelf.Tests.{cases-eq, cases-lt, both-ways, cond-true, co
 use Rattle.trees.specs.Trees.{Tree, Chooses, Leads, Solution}
 use Rattle.trees.specs.declared.Status.{Status}
 use Rattle.trees.specs.declared.Status.the-variants.{Failed, Solved, Choice}
-use Rattle.nodes.specs.Words.{bit, has, Inside, Fit, Proper}
+use Rattle.words.specs.Words.{bit, has, Inside, Fit, Proper}
 use Rattle.nodes.specs.Choosing.{Filled, Empty, Chosen, status, chosen, smallest}
-use Rattle.nodes.proofs.Bit.{bit-zero, bit-pow-same, bit-pow-other, some-bit, ones-mono}
-use Rattle.nodes.proofs.Inside.{same-node, inside-le, in-word}
+use Rattle.words.proofs.Bit.{bit-zero, bit-pow-same, bit-pow-other, some-bit, ones-mono}
+use Rattle.words.proofs.Inside.{same-node, inside-le, in-word}
 use Rattle.nodes.proofs.Emptiness.{empty?}
 use Rattle.nodes.proofs.Chosen.{failed-empty, solved-ones, solved-pow, choice-chosen, choice-is, pow-solved}
 use Rattle.nodes.proofs.Counts.{ones-pow, pow-value}

@@ -8,9 +8,9 @@ use lib.ListN.{getD, set, length}
 use lib.Bits.{bitAnd, bitXor}
 use Rattle.std.proofs.shelf.Lists.{getD-set-same, getD-set-other, length-set, getD-past}
 use Rattle.std.proofs.shelf.Tests.{cases-eq, cases-lt, cases-bool, both-ways, and-from, and-parts}
-use Rattle.nodes.specs.Words.{bit, has, Inside, Fit, Proper, Only, Without}
-use Rattle.nodes.proofs.Bit.{bit-and, bit-ext, bit-past, bit-zero, bit-pow-same, bit-pow-other, is-without}
-use Rattle.nodes.proofs.Inside.{inside-le}
+use Rattle.words.specs.Words.{bit, has, Inside, Fit, Proper, Only, Without}
+use Rattle.words.proofs.Bit.{bit-and, bit-ext, bit-past, bit-zero, bit-pow-same, bit-pow-other, is-without}
+use Rattle.words.proofs.Inside.{inside-le}
 use Rattle.propagation.specs.Closing.{total}
 use Rattle.propagation.proofs.Closures.{total-less}
 use Rattle.problems.specs.Problems.{cut}

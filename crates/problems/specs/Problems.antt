@@ -6,7 +6,7 @@ use lib.Bits.{bitAnd, bitXor}
 use lib.Dec.{eqb, ltb}
 use lib.ListN.{getD, length, set, take, drop}
 use Rattle.trees.specs.Trees.{Tree, Solution, Strict-order}
-use Rattle.nodes.specs.Words.{has, Inside, Proper}
+use Rattle.words.specs.Words.{has, Inside, Proper}
 use Rattle.nodes.specs.Choosing.{Filled, status, chosen, smallest, rest, reach}
 use Rattle.propagation.specs.Networks.{Network, Sane, Assigns}
 use Rattle.propagation.specs.Closing.{closure}

@@ -8,11 +8,11 @@ ghost use Rattle.std.specs.declared.option.Option.the-variants.{Some, None};
 ghost use Rattle.nodes.specs.Choosing.{empty-below};
 ghost use Rattle.propagation.specs.Closing.{closure};
 ghost use Rattle.trees.specs.Trees.{Orderly};
-ghost use Rattle.problems.specs.Problems.{Lawful, Leaves-solve, cut, narrowed, tree-of};
+ghost use Rattle.problems.specs.Problems.{Lawful, Leaves-solve, Priced, cut, narrowed, tree-of};
 use nodes::node::Node;
-use nodes::word::only;
 use propagation::Constraints;
 use propagation::close;
+use words::only;
 
 /// A problem: constraints, the values that each variable starts with, and what a solution costs.
 pub trait Problem: Constraints {
@@ -48,6 +48,7 @@ pub trait Problem: Constraints {
 pub fn root<P: Problem>(problem: &P) -> Node
     ensures value { λ r. ⌜ r .words ≡ closure (P·Constraints .network (now (problem .entry))) (P·Problem .start (now (problem .entry))) ⌝ }
     ensures leaves { λ _. ⌜ Leaves-solve (P·Constraints .network (now (problem .entry))) (P·Problem .start (now (problem .entry))) (P·Problem .bound (now (problem .entry))) ⌝ }
+    ensures priced { λ _. ⌜ Priced (P·Constraints .network (now (problem .entry)) .width) (P·Problem .bound (now (problem .entry))) (P·Problem .cost (now (problem .entry))) (P·Problem .less) ⌝ }
     ensures orderly { λ _. ⌜ Orderly (tree-of (P·Constraints .network (now (problem .entry))) (P·Problem .start (now (problem .entry))) (P·Problem .bound (now (problem .entry)))) (P·Problem .less) (P·Constraints .network (now (problem .entry)) .width) ⌝ }
 {
     close(problem, problem.start())

@@ -10,10 +10,10 @@ use lib.ListN.{getD, length}
 use Rattle.std.proofs.shelf.Lists.{getD-default, ext-getD, getD-past, length-replicate}
 use Rattle.std.proofs.shelf.Bits.{pow-below, pow-pos, or-lt}
 use Rattle.std.proofs.shelf.Tests.{cases-eq, cases-lt, cases-bool, both-ways, and-from, and-parts, or-cases, or-left, or-right, eqb-true, eqb-false, eq-eqb, cond-true, cond-false}
-use Rattle.nodes.specs.Words.{bit, has, Inside, Fit}
+use Rattle.words.specs.Words.{bit, has, Inside, Fit}
 use Rattle.nodes.specs.Choosing.{Filled, Empty, empty-below}
-use Rattle.nodes.proofs.Bit.{bit-or, bit-zero, bit-pow-same, bit-pow-other}
-use Rattle.nodes.proofs.Inside.{same-node, inside-le, has-place}
+use Rattle.words.proofs.Bit.{bit-or, bit-zero, bit-pow-same, bit-pow-other}
+use Rattle.words.proofs.Inside.{same-node, inside-le, has-place}
 use Rattle.nodes.proofs.Emptiness.{empty?, empty-from, filled-none}
 use Rattle.propagation.specs.Networks.{Network, Holds, Supported, Largest, Closure-of, Sane, dead}
 use Rattle.propagation.specs.Closing.{those, words, supported, sweep, sweeps, total, closure}

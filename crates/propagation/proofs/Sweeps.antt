@@ -7,12 +7,12 @@ use native.Mathlib.Omega.{arith}
 use lib.ListN.{getD, length}
 use lib.Bits.{bitAnd, bitOr, or-zero-r}
 use Rattle.std.proofs.shelf.Tests.{cases-eq, cases-bool, both-ways, and-from, and-parts, or-parts, or-from}
-use Rattle.nodes.specs.Words.{bit, has, Inside}
+use Rattle.words.specs.Words.{bit, has, Inside}
 use Rattle.nodes.specs.Choosing.{Filled, Empty, empty-below}
 use Rattle.propagation.specs.Networks.{Network, Holds, Supported, Largest, Sane, Revised, Differ}
 use Rattle.propagation.specs.Closing.{total}
-use Rattle.nodes.proofs.Bit.{bit-and, bit-or, bit-zero, some-bit}
-use Rattle.nodes.proofs.Inside.{inside-le}
+use Rattle.words.proofs.Bit.{bit-and, bit-or, bit-zero, some-bit}
+use Rattle.words.proofs.Inside.{inside-le}
 use Rattle.propagation.proofs.Closures.{total-le, total-less}
 
 -- constraint k touches none of the variables in a mask

@@ -3,7 +3,7 @@ use mathlib.Core.Bool.{Bool, true, false, cond, _&&_}
 use Prim.Native.Nat.{ℕ, zero, suc, _+_, _^_}
 use lib.Dec.{eqb}
 use lib.Bits.{bitOr}
-use Rattle.nodes.specs.Words.{has}
+use Rattle.words.specs.Words.{has}
 use Rattle.nodes.specs.Choosing.{empty-below}
 use Rattle.propagation.specs.Networks.{Network, dead}
 

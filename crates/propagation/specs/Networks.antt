@@ -3,7 +3,7 @@ use mathlib.Core.List.{List}
 use mathlib.Core.Bool.{Bool, true, false, _&&_}
 use Prim.Native.Nat.{ℕ, _^_, _<_, _≤_}
 use lib.ListN.{getD, length, replicate}
-use Rattle.nodes.specs.Words.{bit, has, Inside}
+use Rattle.words.specs.Words.{bit, has, Inside}
 use Rattle.nodes.specs.Choosing.{Filled, Empty}
 
 -- The constraints 0 .. count - 1 over the variables 0 .. width - 1.

@@ -26,7 +26,8 @@ pub trait Constraints {
 
     /// The variables that constraint k is about, as a set; none for a constraint that is not there.
     fn touches(&self, k: usize) -> u32
-        ensures { λ r. ⌜ (k < network (now (self .entry)) .count → r ≡ network (now (self .entry)) .touches k) ⌝ };
+        ensures value { λ r. ⌜ (k < network (now (self .entry)) .count → r ≡ network (now (self .entry)) .touches k) ⌝ }
+        ensures none { λ r. ⌜ (network (now (self .entry)) .count ≤ k → r ≡ 0) ⌝ };
 
     /// Removes the values that constraint k does not support, and answers which words changed.
     /// A constraint that is not there removes nothing.

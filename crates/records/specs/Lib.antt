@@ -3,4 +3,3 @@ pub mod Checks
 pub mod Refusals
 pub mod Tables
 pub mod Sums
-pub mod Meaning

@@ -4,7 +4,7 @@ ghost use Rattle.records.specs.Refusals.{number};
 ghost use Rattle.records.specs.declared.refusal.Cause.the-variants.{Absent};
 
 /// Why a file is refused, or a number that was asked for.
-#[derive(Drop, Clone, Copy, Debug, PartialEq)]
+#[derive(Drop, Clone, Copy)]
 pub enum Cause {
     /// The length is no multiple of 136.
     Length,
@@ -25,7 +25,7 @@ pub enum Cause {
 }
 
 /// A refusal: its cause, and the record, the count or the number asked that it names.
-#[derive(Drop, Clone, Copy, Debug, PartialEq)]
+#[derive(Drop, Clone, Copy)]
 pub struct Refusal {
     pub cause: Cause,
     pub record: usize,

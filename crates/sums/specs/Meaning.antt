@@ -1,6 +1,6 @@
 use Prim.Native.Nat.{ℕ}
 use mathlib.Core.List.{List}
-use Rattle.records.specs.Meaning.{sum-bytes-of}
+use Rattle.sum_files.specs.Meaning.{sum-bytes-of}
 use Rattle.sums.specs.declared.problem.Sums.{Sums}
 
 -- the bytes of the file that a problem is read from

@@ -1,9 +1,9 @@
 //! The problem of a sum file.
-ghost use Rattle.records.specs.Meaning.{sum-bytes-of};
-ghost use Rattle.sums.specs.Files.{Masks};
-use records::SumView;
+ghost use Rattle.sum_files.specs.Meaning.{sum-bytes-of};
+ghost use Rattle.sum_networks.specs.Files.{Masks};
+use sum_files::SumView;
 
-mod calls;
+pub mod calls;
 
 /// A sum file as a problem, with the set of variables of each sum.
 #[derive(Drop)]

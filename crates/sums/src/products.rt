@@ -4,11 +4,11 @@ ghost use Prim.Native.Nat.{ℕ, _<_, _≤_};
 ghost use lib.IntN.{ℤ, pos, negsuc, _*ℤ_};
 ghost use lib.Signed.{_≤ℤ_};
 ghost use Rattle.records.specs.Sums.{Small};
-ghost use Rattle.sums.specs.Sums.{largest, smallest-product, product-at};
-ghost use Rattle.sums.specs.Steps.{Reaching};
-use nodes::word::highest;
-use nodes::word::lowest;
-use nodes::word::without;
+ghost use Rattle.sum_networks.specs.Sums.{largest, smallest-product, product-at};
+ghost use Rattle.sum_networks.specs.Steps.{Reaching};
+use words::highest;
+use words::lowest;
+use words::without;
 
 /// A coefficient times a value.
 pub(crate) fn product(c: i32, value: u32) -> i64

@@ -1,12 +1,12 @@
 //! Readings of a sum file that are known to be there.
 ghost use mathlib.Core.Path.{_≡_};
 ghost use Prim.Native.Nat.{ℕ, _<_, _≤_};
-ghost use Rattle.records.specs.Meaning.{sum-bytes-of};
+ghost use Rattle.sum_files.specs.Meaning.{sum-bytes-of};
 ghost use Rattle.records.specs.Sums.{sum-width, sum-count, objective-at, coefficient-at, least-at, Small, Moderate};
-ghost use Rattle.sums.specs.Sums.{mask};
-ghost use Rattle.sums.specs.Files.{sum-at};
-use nodes::word::only;
-use records::SumView;
+ghost use Rattle.sum_networks.specs.Sums.{mask};
+ghost use Rattle.sum_networks.specs.Files.{sum-at};
+use sum_files::SumView;
+use words::only;
 
 /// Coefficient i of sum k.
 pub(crate) fn coefficient_of(view: &SumView, k: usize, i: usize) -> i32

@@ -5,13 +5,13 @@ ghost use Prim.Native.Nat.{ℕ, _<_, _≤_};
 ghost use lib.IntN.{ℤ, pos, negsuc};
 ghost use lib.ListN.{getD, length, set};
 ghost use lib.Signed.{_≤ℤ_};
-ghost use Rattle.nodes.specs.Words.{Change};
+ghost use Rattle.words.specs.Words.{Change};
 ghost use Rattle.nodes.specs.Choosing.{Filled};
-ghost use Rattle.records.specs.Meaning.{sum-bytes-of};
+ghost use Rattle.sum_files.specs.Meaning.{sum-bytes-of};
 ghost use Rattle.records.specs.Sums.{sum-width, sum-count, coefficient-at};
-ghost use Rattle.sums.specs.Sums.{totals};
-ghost use Rattle.sums.specs.Steps.{Kept, reaches};
-ghost use Rattle.sums.specs.Files.{sum-at, bound-of};
+ghost use Rattle.sum_networks.specs.Sums.{totals};
+ghost use Rattle.sum_networks.specs.Steps.{Kept, reaches};
+ghost use Rattle.sum_networks.specs.Files.{sum-at, bound-of};
 use crate::products::least;
 use crate::products::most;
 use crate::products::reaching;
@@ -19,8 +19,8 @@ use crate::reading::coefficient_of;
 use crate::reading::least_of;
 use crate::reading::objective_of;
 use nodes::node::Node;
-use nodes::word::change;
-use records::SumView;
+use sum_files::SumView;
+use words::change;
 
 /// Puts a word in place i, and answers the variable as a set if that changes it.
 fn put(node: &mut Node, i: usize, word: u32) -> u32

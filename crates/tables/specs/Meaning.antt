@@ -1,6 +1,6 @@
 use mathlib.Core.List.{List}
 use Prim.Native.Nat.{ℕ}
-use Rattle.records.specs.Meaning.{bytes-of}
+use Rattle.table_files.specs.Meaning.{bytes-of}
 use Rattle.tables.specs.declared.problem.Tables.{Tables}
 
 -- the bytes of the table file that a problem stands on

@@ -1,12 +1,12 @@
 ghost use mathlib.Core.Path.{_≡_};
 ghost use Prim.Native.Nat.{ℕ, _<_, _≤_};
 ghost use Rattle.records.specs.Tables.{variable-count, stops, minutes};
-ghost use Rattle.records.specs.Meaning.{bytes-of};
-ghost use Rattle.tables.specs.Costs.{Least};
+ghost use Rattle.table_files.specs.Meaning.{bytes-of};
+ghost use Rattle.table_networks.specs.Costs.{Least};
 use crate::readings::costs_of;
-use nodes::word::lowest;
-use nodes::word::without;
-use records::TableView;
+use table_files::TableView;
+use words::lowest;
+use words::without;
 
 /// The least stops and the least minutes over the values of a word of variable i.
 pub(crate) fn least_costs(view: &TableView, i: usize, word: u32) -> (u16, u16)

@@ -1,12 +1,12 @@
 ghost use mathlib.Core.Path.{_≡_};
 ghost use Prim.Native.Nat.{ℕ, _<_, _≤_};
 ghost use Rattle.records.specs.Tables.{table-count, table-row};
-ghost use Rattle.records.specs.Meaning.{bytes-of};
-ghost use Rattle.tables.specs.Tables.{Kept};
+ghost use Rattle.table_files.specs.Meaning.{bytes-of};
+ghost use Rattle.table_networks.specs.Tables.{Kept};
 use crate::readings::row_of;
-use nodes::word::lowest;
-use nodes::word::without;
-use records::TableView;
+use table_files::TableView;
+use words::lowest;
+use words::without;
 
 /// The values of x that go with one of y in table k, and those of y that go with one of x.
 pub(crate) fn partners(view: &TableView, k: usize, wx: u32, wy: u32) -> (u32, u32)

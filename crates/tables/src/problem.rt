@@ -1,5 +1,5 @@
 //! A table file as a problem.
-use records::TableView;
+use table_files::TableView;
 
 pub mod calls;
 

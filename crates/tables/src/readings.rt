@@ -1,8 +1,8 @@
 ghost use mathlib.Core.Path.{_≡_};
 ghost use Prim.Native.Nat.{ℕ, _<_, _≤_};
 ghost use Rattle.records.specs.Tables.{variable-count, table-count, start-word, stops, minutes, table-row};
-ghost use Rattle.records.specs.Meaning.{bytes-of};
-use records::TableView;
+ghost use Rattle.table_files.specs.Meaning.{bytes-of};
+use table_files::TableView;
 
 /// The row of table k at value a.
 pub(crate) fn row_of(view: &TableView, k: usize, a: u32) -> u32

@@ -1,7 +1,7 @@
 //! Search trees over nodes of any make: what a search can see of a node.
 
 /// Where a search stands at a node.
-#[derive(Clone, Copy, Debug, PartialEq)]
+#[derive(Clone, Copy)]
 pub enum Status {
     /// Some variable has no value left.
     Failed,

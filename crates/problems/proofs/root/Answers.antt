@@ -13,5 +13,6 @@ returns g c =
     record {
       value = c .close .ensures .value ∙ ap (closure p) (c .start .ensures .value);
       leaves = leaves-solve p (l .sane) (l .low) (l .high) s b (l .proper);
+      priced = l .priced;
       orderly = orderly p (l .sane) (l .low) (l .high) s b (l .proper) (l .priced);
     }

@@ -7,7 +7,7 @@ use lib.ListN.{length, getD}
 use native.Mathlib.Omega.{arith}
 use borrow.Author.Needs.{needs}
 use Rattle.std.proofs.shelf.Tests.{both-ways, cases-eq}
-use Rattle.nodes.specs.Words.{Fit}
+use Rattle.words.specs.Words.{Fit}
 use Rattle.nodes.specs.Choosing.{Empty, Filled, empty-below}
 use Rattle.nodes.proofs.Emptiness.{empty-some, empty-from, none-filled}
 use Rattle.propagation.specs.Networks.{dead}

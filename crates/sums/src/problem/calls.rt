@@ -2,10 +2,10 @@
 ghost use mathlib.Core.Path.{_≡_};
 ghost use Prim.Native.Nat.{ℕ, _<_, _≤_};
 ghost use lib.Signed.{ltZ};
-ghost use Rattle.records.specs.Meaning.{sum-bytes-of};
+ghost use Rattle.sum_files.specs.Meaning.{sum-bytes-of};
 ghost use Rattle.records.specs.Sums.{sum-width, objective-at};
-ghost use Rattle.sums.specs.Sums.{Support-law, Bound-law};
-ghost use Rattle.sums.specs.Files.{sum-at, network-of, start-of, bound-of, cost-of};
+ghost use Rattle.sum_networks.specs.Sums.{Support-law, Bound-law};
+ghost use Rattle.sum_networks.specs.Files.{sum-at, network-of, start-of, bound-of, cost-of};
 ghost use Rattle.sums.specs.Meaning.{file-of};
 use super::Sums;
 use crate::reading::touched_by;
@@ -16,7 +16,7 @@ use nodes::choosing::has_empty;
 use nodes::node::Node;
 use problems::Problem;
 use propagation::Constraints;
-use records::SumView;
+use sum_files::SumView;
 
 impl<'a> Sums<'a> {
     /// The problem of a sum file. A value is supported just where the largest products of the other words reach the
@@ -46,7 +46,7 @@ pub impl<'a> Constraints for Sums<'a> as SumsConstraints {
     }
 
     fn touches(&self, k: usize) -> u32 {
-        if k < 64 { self.touched[k] } else { 0 }
+        if k < self.count() { self.touched[k] } else { 0 }
     }
 
     fn revise(&self, k: usize, node: &mut Node) -> u32 {

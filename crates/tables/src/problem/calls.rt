@@ -4,10 +4,10 @@ ghost use mathlib.Core.List.{List};
 ghost use Prim.Native.Nat.{ℕ, _<_, _≤_, _+_};
 ghost use denote.Ref.{now};
 ghost use lib.ListN.{length, getD};
-ghost use Rattle.records.specs.Meaning.{bytes-of};
+ghost use Rattle.table_files.specs.Meaning.{bytes-of};
 ghost use Rattle.records.specs.Tables.{variable-count, stops, minutes};
-ghost use Rattle.tables.specs.Costs.{Least-law, bound, cost, less};
-ghost use Rattle.tables.specs.Files.{network-of, start-of};
+ghost use Rattle.table_networks.specs.Costs.{Least-law, bound, cost, less};
+ghost use Rattle.table_networks.specs.Files.{network-of, start-of};
 ghost use Rattle.tables.specs.Meaning.{file-of};
 use super::Tables;
 use crate::costs::least_costs;
@@ -15,11 +15,11 @@ use crate::partners::partners;
 use crate::readings::start_of;
 use nodes::choosing::has_empty;
 use nodes::node::Node;
-use nodes::word::change;
-use nodes::word::only;
 use problems::Problem;
 use propagation::Constraints;
-use records::TableView;
+use table_files::TableView;
+use words::change;
+use words::only;
 
 impl<'a> Tables<'a> {
     /// The problem of the table file that a view shows.

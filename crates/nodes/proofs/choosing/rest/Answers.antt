@@ -6,7 +6,7 @@ use lib.Count.{ones}
 use lib.ListN.{getD}
 use mir.Syntax.{w32}
 use mir.Val.{Fits}
-use Rattle.nodes.specs.Words.{Fit}
+use Rattle.words.specs.Words.{Fit}
 use Rattle.nodes.proofs.Counts.{within, surplus-most, surplus-none, surplus-turn, filled-ones, ones-most}
 use Rattle.nodes.proofs.Emptiness.{none-filled}
 use Rattle.nodes.proofs.choosing.rest.Needs as need

@@ -7,4 +7,4 @@ use Rattle.records.proofs.words.line_at.Needs as need
 pub returns : need.returns
 returns c =
     let n : 136 * c .args .k + 136 - 136 * c .args .k ≡ 136 = omega arith in
-    record { part = simp n; size = simp (length-take, length-drop) (omega arith) }
+    record { part = λ _. simp n; size = λ _. simp (length-take, length-drop) (omega arith); none = λ h. absurd (omega arith) }

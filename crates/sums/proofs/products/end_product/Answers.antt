@@ -4,8 +4,8 @@ use native.Mathlib.Omega.{arith}
 use mir.Val.{SFits}
 use mir.Syntax.{w32, w64}
 use Rattle.std.proofs.shelf.Signed.{toZ-ofZ, ints}
-use Rattle.sums.proofs.Ends.{low-is, high-is}
-use Rattle.sums.proofs.Reached.{at-end}
+use Rattle.sum_networks.proofs.Ends.{low-is, high-is}
+use Rattle.sum_networks.proofs.Reached.{at-end}
 use Rattle.sums.proofs.products.end_product.Needs as need
 
 pub returns-then-lower : need.returns-then-lower

@@ -6,8 +6,8 @@ use lib.Signed.{ltZ}
 use mir.Val.{SFits}
 use mir.Syntax.{w32, w64}
 use Rattle.std.proofs.shelf.Signed.{toZ-ofZ, ints}
-use Rattle.sums.specs.Sums.{smallest-product}
-use Rattle.sums.proofs.Reached.{same-end, from-zero}
+use Rattle.sum_networks.specs.Sums.{smallest-product}
+use Rattle.sum_networks.proofs.Reached.{same-end, from-zero}
 use Rattle.sums.proofs.products.least.Needs as need
 
 pub returns : need.returns

@@ -5,8 +5,8 @@ use lib.Signed.{ltZ}
 use mir.Val.{SFits}
 use mir.Syntax.{w32, w64}
 use Rattle.std.proofs.shelf.Signed.{toZ-ofZ, ints}
-use Rattle.sums.specs.Sums.{largest}
-use Rattle.sums.proofs.Reached.{same-end}
+use Rattle.sum_networks.specs.Sums.{largest}
+use Rattle.sum_networks.proofs.Reached.{same-end}
 use Rattle.sums.proofs.products.most.Needs as need
 
 pub returns : need.returns

@@ -5,7 +5,7 @@ use lib.Signed.{_≤ℤ_}
 use mir.Val.{SFits, toZ, ofZ}
 use mir.Syntax.{w32, w64}
 use Rattle.std.proofs.shelf.Signed.{toZ-ofZ, ints}
-use Rattle.sums.proofs.Reached.{product-of, product-low, product-high, wide-fits}
+use Rattle.sum_networks.proofs.Reached.{product-of, product-low, product-high, wide-fits}
 use Rattle.sums.proofs.products.product.Needs as need
 
 product-is : (c : need.After-from-2) → (toZ w64 (ofZ w64 (c .from .result)) *ℤ toZ w64 (ofZ w64 (c .from-2 .result))) ≡ c .args .c *ℤ pos (c .args .value)

@@ -5,8 +5,8 @@ use lib.Signed.{_≤ℤ_, _<ℤ_}
 use mir.Val.{toZ, ofZ}
 use mir.Syntax.{w32, w64}
 use Rattle.std.proofs.shelf.Signed.{toZ-ofZ, ints}
-use Rattle.nodes.proofs.Bit.{without-less}
-use Rattle.sums.proofs.Reached.{Seen, lt-of, le-of, start, finish, reaches, misses, all-reach, above}
+use Rattle.words.proofs.Bit.{without-less}
+use Rattle.sum_networks.proofs.Reached.{Seen, lt-of, le-of, start, finish, reaches, misses, all-reach, above}
 use Rattle.sums.proofs.products.reaching.Needs as need
 use Rattle.sums.proofs.products.reaching.Needs.{then-product-need, else-product-need}
 

@@ -1,4 +1,4 @@
-use Rattle.sums.proofs.Reached.{Seen}
+use Rattle.sum_networks.proofs.Reached.{Seen}
 use Rattle.sums.proofs.products.reaching.Given as given
 
 abbrev pub Inv-loop-left : given.InvT-loop-left

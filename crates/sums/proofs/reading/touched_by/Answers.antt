@@ -3,10 +3,10 @@ use native.Mathlib.Omega.{arith}
 use mir.Val.{toZ, ofZ}
 use mir.Syntax.{w32}
 use Rattle.std.proofs.shelf.Signed.{toZ-ofZ}
-use Rattle.records.specs.Meaning.{sum-bytes-of}
-use Rattle.sums.specs.Sums.{mask}
-use Rattle.sums.specs.Files.{sum-at}
-use Rattle.sums.proofs.Cutting.{mask-yes, mask-no}
+use Rattle.sum_files.specs.Meaning.{sum-bytes-of}
+use Rattle.sum_networks.specs.Sums.{mask}
+use Rattle.sum_networks.specs.Files.{sum-at}
+use Rattle.sum_networks.proofs.Cutting.{mask-yes, mask-no}
 use Rattle.sums.proofs.reading.touched_by.Needs as need
 use Rattle.sums.proofs.reading.touched_by.Needs.{then-coefficient-of-ne0, else-coefficient-of-ne0}
 

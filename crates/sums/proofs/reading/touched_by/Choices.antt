@@ -1,7 +1,7 @@
 use mathlib.Core.Path.{_≡_}
-use Rattle.records.specs.Meaning.{sum-bytes-of}
-use Rattle.sums.specs.Sums.{mask}
-use Rattle.sums.specs.Files.{sum-at}
+use Rattle.sum_files.specs.Meaning.{sum-bytes-of}
+use Rattle.sum_networks.specs.Sums.{mask}
+use Rattle.sum_networks.specs.Files.{sum-at}
 use Rattle.sums.proofs.reading.touched_by.Given as given
 
 abbrev pub Inv-loop-i : given.InvT-loop-i

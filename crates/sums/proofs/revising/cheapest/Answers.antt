@@ -3,10 +3,10 @@ use native.Mathlib.Omega.{arith}
 use mir.Val.{SFits}
 use mir.Syntax.{w32}
 use Rattle.std.proofs.shelf.Signed.{toZ-ofZ, ints}
-use Rattle.records.specs.Meaning.{sum-bytes-of}
+use Rattle.sum_files.specs.Meaning.{sum-bytes-of}
 use Rattle.records.specs.Sums.{objective-at}
-use Rattle.sums.specs.Sums.{least-total}
-use Rattle.sums.proofs.Cutting.{least-more}
+use Rattle.sum_networks.specs.Sums.{least-total}
+use Rattle.sum_networks.proofs.Cutting.{least-more}
 use Rattle.sums.proofs.revising.cheapest.Needs as need
 
 pub loop-j-holds : need.loop-j-holds

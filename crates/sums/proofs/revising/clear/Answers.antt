@@ -1,7 +1,7 @@
 use mathlib.Core.Bool.{false}
 use native.Mathlib.Omega.{arith}
 use lib.ListN.{getD}
-use Rattle.sums.proofs.Cutting.{none-yet, one-more, no-bit}
+use Rattle.sum_networks.proofs.Cutting.{none-yet, one-more, no-bit}
 use Rattle.sums.proofs.revising.clear.Needs as need
 
 pub loop-i-holds : need.loop-i-holds

@@ -1,5 +1,5 @@
 use mathlib.Core.Bool.{false}
-use Rattle.sums.specs.Steps.{Kept}
+use Rattle.sum_networks.specs.Steps.{Kept}
 use Rattle.sums.proofs.revising.clear.Given as given
 
 abbrev pub Inv-loop-i : given.InvT-loop-i

@@ -6,12 +6,12 @@ use lib.ListN.{getD}
 use mir.Val.{SFits, toZ, ofZ}
 use mir.Syntax.{w32, w64}
 use Rattle.std.proofs.shelf.Signed.{toZ-ofZ, ints}
-use Rattle.records.specs.Meaning.{sum-bytes-of}
+use Rattle.sum_files.specs.Meaning.{sum-bytes-of}
 use Rattle.records.specs.Sums.{sum-width}
-use Rattle.sums.specs.Sums.{largest, totals}
-use Rattle.sums.specs.Steps.{Reaching, reaches}
-use Rattle.sums.specs.Files.{sum-at}
-use Rattle.sums.proofs.Cutting.{none-yet, one-more, reached, need-is}
+use Rattle.sum_networks.specs.Sums.{largest, totals}
+use Rattle.sum_networks.specs.Steps.{Reaching, reaches}
+use Rattle.sum_networks.specs.Files.{sum-at}
+use Rattle.sum_networks.proofs.Cutting.{none-yet, one-more, reached, need-is}
 use Rattle.sums.proofs.revising.narrow.Needs as need
 
 pub loop-i-holds : need.loop-i-holds

@@ -1,7 +1,7 @@
-use Rattle.records.specs.Meaning.{sum-bytes-of}
+use Rattle.sum_files.specs.Meaning.{sum-bytes-of}
 use Rattle.records.specs.Sums.{sum-width}
-use Rattle.sums.specs.Steps.{Kept, reaches}
-use Rattle.sums.specs.Files.{sum-at}
+use Rattle.sum_networks.specs.Steps.{Kept, reaches}
+use Rattle.sum_networks.specs.Files.{sum-at}
 use Rattle.sums.proofs.revising.narrow.Given as given
 
 abbrev pub Inv-loop-i : given.InvT-loop-i

@@ -3,9 +3,9 @@ use native.Mathlib.Omega.{arith}
 use mir.Val.{SFits}
 use mir.Syntax.{w32}
 use Rattle.std.proofs.shelf.Signed.{toZ-ofZ, ints}
-use Rattle.records.specs.Meaning.{sum-bytes-of}
+use Rattle.sum_files.specs.Meaning.{sum-bytes-of}
 use Rattle.records.specs.Sums.{coefficient-at}
-use Rattle.sums.proofs.Cutting.{total-more}
+use Rattle.sum_networks.proofs.Cutting.{total-more}
 use Rattle.sums.proofs.revising.total.Needs as need
 
 pub loop-j-again : need.loop-j-again

@@ -2,9 +2,9 @@ use Prim.Native.Nat.{_*_}
 use mathlib.Core.Path.{_≡_}
 use lib.IntN.{pos, negℤ}
 use lib.Signed.{_≤ℤ_}
-use Rattle.records.specs.Meaning.{sum-bytes-of}
+use Rattle.sum_files.specs.Meaning.{sum-bytes-of}
 use Rattle.records.specs.Sums.{coefficient-at}
-use Rattle.sums.specs.Sums.{totals}
+use Rattle.sum_networks.specs.Sums.{totals}
 use Rattle.sums.proofs.revising.total.Given as given
 
 abbrev pub Inv-loop-j : given.InvT-loop-j

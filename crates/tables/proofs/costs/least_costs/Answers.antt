@@ -1,5 +1,5 @@
-use Rattle.nodes.proofs.Bit.{without-less}
-use Rattle.tables.proofs.Prices.{seen-one, seen-all, seen-more}
+use Rattle.words.proofs.Bit.{without-less}
+use Rattle.table_networks.proofs.Prices.{seen-one, seen-all, seen-more}
 use Rattle.tables.proofs.costs.least_costs.Needs as need
 
 pub loop-left-holds : need.loop-left-holds

@@ -1,6 +1,6 @@
 use Rattle.records.specs.Tables.{stops, minutes}
-use Rattle.records.specs.Meaning.{bytes-of}
-use Rattle.tables.proofs.Prices.{Seen}
+use Rattle.table_files.specs.Meaning.{bytes-of}
+use Rattle.table_networks.proofs.Prices.{Seen}
 use Rattle.tables.proofs.costs.least_costs.Given as given
 
 abbrev pub Inv-loop-left : given.InvT-loop-left

@@ -1,10 +1,10 @@
 use mathlib.Core.Path.{_≡_, ap}
 use Prim.Native.Nat.{ℕ}
 use lib.Bits.{bitAnd}
-use Rattle.records.specs.Meaning.{bytes-of}
+use Rattle.table_files.specs.Meaning.{bytes-of}
 use Rattle.records.specs.Tables.{table-row}
-use Rattle.nodes.proofs.Bit.{without-less}
-use Rattle.tables.proofs.Progress.{start, finish, stays, goes}
+use Rattle.words.proofs.Bit.{without-less}
+use Rattle.table_networks.proofs.Progress.{start, finish, stays, goes}
 use Rattle.tables.proofs.partners.partners.Needs as need
 use Rattle.tables.proofs.partners.partners.Needs.{then-row-eq0, else-row-eq0}
 

@@ -1,6 +1,6 @@
 use Rattle.records.specs.Tables.{table-row}
-use Rattle.records.specs.Meaning.{bytes-of}
-use Rattle.tables.proofs.Progress.{Progress}
+use Rattle.table_files.specs.Meaning.{bytes-of}
+use Rattle.table_networks.proofs.Progress.{Progress}
 use Rattle.tables.proofs.partners.partners.Given as given
 
 abbrev pub Inv-loop-left : given.InvT-loop-left

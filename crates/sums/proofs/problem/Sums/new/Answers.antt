@@ -3,12 +3,12 @@ use Prim.Native.Nat.{ℕ, _<_}
 use native.Mathlib.Omega.{arith}
 use lib.ListN.{length}
 use Rattle.std.proofs.shelf.Lists.{length-set}
-use Rattle.records.specs.Meaning.{sum-bytes-of}
+use Rattle.sum_files.specs.Meaning.{sum-bytes-of}
 use Rattle.records.specs.Sums.{sum-width}
-use Rattle.sums.specs.Sums.{mask}
-use Rattle.sums.specs.Files.{sum-at}
-use Rattle.sums.proofs.Keeping.{support-law, bound-law}
-use Rattle.sums.proofs.Cutting.{filled-more}
+use Rattle.sum_networks.specs.Sums.{mask}
+use Rattle.sum_networks.specs.Files.{sum-at}
+use Rattle.sum_networks.proofs.Keeping.{support-law, bound-law}
+use Rattle.sum_networks.proofs.Cutting.{filled-more}
 use Rattle.sums.proofs.problem.Sums.new.Needs as need
 
 pub loop-k-holds : need.loop-k-holds

@@ -1,10 +1,10 @@
 use mathlib.Core.Path.{_≡_}
 use Prim.Native.Nat.{ℕ, _<_}
 use lib.ListN.{getD, length}
-use Rattle.records.specs.Meaning.{sum-bytes-of}
+use Rattle.sum_files.specs.Meaning.{sum-bytes-of}
 use Rattle.records.specs.Sums.{sum-width}
-use Rattle.sums.specs.Sums.{mask}
-use Rattle.sums.specs.Files.{sum-at}
+use Rattle.sum_networks.specs.Sums.{mask}
+use Rattle.sum_networks.specs.Files.{sum-at}
 use Rattle.sums.proofs.problem.Sums.new.Given as given
 
 abbrev pub Inv-loop-k : given.InvT-loop-k

@@ -1,5 +1,5 @@
 use mathlib.Core.Path.{refl}
-use Rattle.tables.proofs.Prices.{least-law}
+use Rattle.table_networks.proofs.Prices.{least-law}
 use Rattle.tables.proofs.problem.Tables.new.Needs as need
 
 pub returns : need.returns

@@ -1,6 +1,6 @@
 use mathlib.Core.Path.{refl}
 use Rattle.records.proofs.Facts.{width-some}
-use Rattle.sums.proofs.Keeping.{sums-sane}
+use Rattle.sum_networks.proofs.Keeping.{sums-sane}
 use Rattle.sums.proofs.problem.calls.SumsConstraints.count.Needs as need
 
 pub returns : need.returns

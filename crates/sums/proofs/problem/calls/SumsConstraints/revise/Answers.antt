@@ -5,10 +5,10 @@ use native.Mathlib.Omega.{arith}
 use Rattle.nodes.specs.Choosing.{empty-below}
 use Rattle.nodes.proofs.Emptiness.{none-filled, empty-some}
 use Rattle.records.specs.Sums.{sum-width}
-use Rattle.sums.specs.Steps.{Kept, reaches}
-use Rattle.sums.specs.Files.{sum-at}
+use Rattle.sum_networks.specs.Steps.{Kept, reaches}
+use Rattle.sum_networks.specs.Files.{sum-at}
 use Rattle.sums.specs.Meaning.{file-of}
-use Rattle.sums.proofs.Cutting.{none-yet, narrowed, cleared}
+use Rattle.sum_networks.proofs.Cutting.{none-yet, narrowed, cleared}
 use Rattle.sums.proofs.problem.calls.SumsConstraints.revise.Needs as need
 
 pub narrow-requires : need.narrow-requires

@@ -8,10 +8,10 @@ use lib.ListN.{length, getD}
 use Rattle.std.proofs.shelf.Lists.{length-set}
 use Rattle.records.specs.Sums.{sum-width}
 use Rattle.sums.specs.Meaning.{file-of}
-use Rattle.sums.proofs.Cutting.{start-none, start-more, start-done, start-proper}
-use Rattle.sums.proofs.Keeping.{sums-priced, sums-sane}
+use Rattle.sum_networks.proofs.Cutting.{start-none, start-more, start-done, start-proper}
+use Rattle.sum_networks.proofs.Keeping.{sums-priced, sums-sane}
 use Rattle.records.proofs.Facts.{width-some}
-use Rattle.nodes.specs.Words.{Proper}
+use Rattle.words.specs.Words.{Proper}
 use Rattle.sums.proofs.problem.calls.SumsProblem.start.Needs as need
 
 pub loop-i-holds : need.loop-i-holds

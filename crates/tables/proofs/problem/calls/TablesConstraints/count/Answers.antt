@@ -1,4 +1,4 @@
-use Rattle.tables.proofs.Files.{network-sane}
+use Rattle.table_networks.proofs.Files.{network-sane}
 use Rattle.tables.proofs.problem.calls.TablesConstraints.count.Needs as need
 
 pub returns : need.returns

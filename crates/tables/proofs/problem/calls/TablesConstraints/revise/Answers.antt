@@ -5,13 +5,13 @@ use Prim.Native.Nat.{ℕ, _^_, _<_}
 use native.Mathlib.Omega.{arith}
 use lib.ListN.{getD, length}
 use borrow.Author.Needs.{needs}
-use Rattle.nodes.specs.Words.{has}
-use Rattle.records.specs.Meaning.{bytes-of}
+use Rattle.words.specs.Words.{has}
+use Rattle.table_files.specs.Meaning.{bytes-of}
 use Rattle.records.specs.Tables.{table-x, table-row}
 use Rattle.records.proofs.Facts.{variables-few}
-use Rattle.tables.specs.Tables.{Table, table-supports}
-use Rattle.tables.specs.Files.{table-at}
-use Rattle.tables.proofs.Tabled.{revised, differ, differ-none}
+use Rattle.table_networks.specs.Tables.{Table, table-supports}
+use Rattle.table_networks.specs.Files.{table-at}
+use Rattle.table_networks.proofs.Tabled.{revised, differ, differ-none}
 use Rattle.tables.proofs.problem.calls.TablesConstraints.revise.Needs as need
 
 pub returns-in-rest : need.returns-in-rest
@@ -54,5 +54,5 @@ returns c =
     record {
       revised = λ _ i v. revised t n _ _ inx iny (ends .5) sx sy (c .partners-kx .ensures) i v ∙ ap (λ (u : Table). has n i v && table-supports u n i v) same;
       nothing = λ l. absurd (omega (arith, ends .2));
-      differ = differ t n _ _ inx iny (ends .5) _ _ (c .change .ensures lx) (c .change-2 .ensures ly);
+      differ = differ t n _ _ inx iny (ends .5) _ _ (c .change .ensures .one lx) (c .change-2 .ensures .one ly);
     }

@@ -9,9 +9,9 @@ use Rattle.std.proofs.shelf.Tests.{cond-true, cond-false}
 use Rattle.std.specs.declared.option.Option.the-variants.{Some}
 use Rattle.nodes.specs.Choosing.{empty-below}
 use Rattle.nodes.proofs.Emptiness.{none-filled}
-use Rattle.records.specs.Meaning.{bytes-of}
+use Rattle.table_files.specs.Meaning.{bytes-of}
 use Rattle.records.specs.Tables.{variable-count}
-use Rattle.tables.proofs.Prices.{summed-none, summed-more, summed-all}
+use Rattle.table_networks.proofs.Prices.{summed-none, summed-more, summed-all}
 use Rattle.tables.proofs.problem.calls.TablesProblem.bound.Needs as need
 
 pub returns-then-has-empty : need.returns-then-has-empty

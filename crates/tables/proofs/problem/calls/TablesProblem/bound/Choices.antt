@@ -1,6 +1,6 @@
-use Rattle.records.specs.Meaning.{bytes-of}
+use Rattle.table_files.specs.Meaning.{bytes-of}
 use Rattle.records.specs.Tables.{stops, minutes}
-use Rattle.tables.proofs.Prices.{Summed}
+use Rattle.table_networks.proofs.Prices.{Summed}
 use Rattle.tables.proofs.problem.calls.TablesProblem.bound.Given as given
 
 abbrev pub Inv-loop-i : given.InvT-loop-i

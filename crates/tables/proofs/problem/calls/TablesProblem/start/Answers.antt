@@ -2,13 +2,13 @@ use mathlib.Core.Path.{_≡_, sym, subst, _∙_}
 use mathlib.Core.List.{List}
 use Prim.Native.Nat.{ℕ, _<_}
 use native.Mathlib.Omega.{arith}
-use Rattle.nodes.specs.Words.{Proper}
-use Rattle.records.specs.Meaning.{bytes-of}
+use Rattle.words.specs.Words.{Proper}
+use Rattle.table_files.specs.Meaning.{bytes-of}
 use Rattle.records.specs.Tables.{variable-count}
-use Rattle.tables.specs.Files.{start-of}
-use Rattle.tables.proofs.Files.{network-sane}
-use Rattle.tables.proofs.Prices.{priced}
-use Rattle.tables.proofs.Starts.{Filled-to, none-filled, one-more, all-filled, is-proper}
+use Rattle.table_networks.specs.Files.{start-of}
+use Rattle.table_networks.proofs.Files.{network-sane}
+use Rattle.table_networks.proofs.Prices.{priced}
+use Rattle.table_networks.proofs.Starts.{Filled-to, none-filled, one-more, all-filled, is-proper}
 use Rattle.tables.proofs.problem.calls.TablesProblem.start.Needs as need
 
 pub loop-i-holds : need.loop-i-holds

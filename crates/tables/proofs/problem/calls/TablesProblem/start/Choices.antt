@@ -1,6 +1,6 @@
-use Rattle.records.specs.Meaning.{bytes-of}
+use Rattle.table_files.specs.Meaning.{bytes-of}
 use Rattle.records.specs.Tables.{start-word}
-use Rattle.tables.proofs.Starts.{Filled-to}
+use Rattle.table_networks.proofs.Starts.{Filled-to}
 use Rattle.tables.proofs.problem.calls.TablesProblem.start.Given as given
 
 abbrev pub Inv-loop-i : given.InvT-loop-i

@@ -1,6 +1,0 @@
-use native.Mathlib.Omega.{arith}
-use Rattle.nodes.proofs.Bit.{is-only}
-use Rattle.nodes.proofs.word.only.Needs as need
-
-pub returns-then-value-lt32 : need.returns-then-value-lt32
-returns-then-value-lt32 c = record { one = λ h. is-only (c .args .value) h; none = λ h. absurd (omega (arith, c .if-value-lt32 .taken)) }

@@ -1,0 +1,4 @@
+//! Sum files: checked once, and then read in place.
+mod view;
+
+pub use view::SumView;

@@ -1,0 +1,4 @@
+//! Table files: checked once, and then read in place.
+mod view;
+
+pub use view::TableView;

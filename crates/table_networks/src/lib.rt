@@ -1,0 +1,1 @@
+//! Tables as constraints with costs: the definitions, over the bytes of a file, and their laws. No code is needed for them.

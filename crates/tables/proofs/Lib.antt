@@ -1,6 +1,0 @@
-pub mod Progress
-pub mod Tabled
-pub mod Prices
-pub mod Starts
-pub mod Told
-pub mod Files
