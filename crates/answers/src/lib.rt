@@ -1,4 +1,6 @@
 //! What is said of a file that is not refused.
+#![tactic(auto)]
+
 use nodes::node::Node;
 use trees::Status;
 

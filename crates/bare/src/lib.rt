@@ -1,4 +1,6 @@
 //! The bare space: a problem's tree and one node of it.
+#![tactic(auto)]
+
 ghost use Rattle.std.specs.Prelude.{◌≡◌, ℕ, ◌≤◌, min, Bool, List};
 ghost use Rattle.nodes.specs.Choosing.{status};
 ghost use Rattle.propagation.specs.Closing.{closure};

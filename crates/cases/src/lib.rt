@@ -1,4 +1,6 @@
 //! Small problems worked by hand: what the definitions of closure, tree and status give for them.
+#![tactic(auto)]
+
 ghost use Rattle.std.specs.Prelude.{◌≡◌, length};
 ghost use Rattle.cases.specs.Cases.{cases, CasesHold};
 

@@ -1,4 +1,6 @@
 //! Prints, for each record file that is named, its name and the report of its first 401 records.
+#![tactic(auto)]
+
 use planner::report;
 use std::io::Read;
 use std::{env, fs};

@@ -1,4 +1,6 @@
 //! A layer that holds whole copies of nodes, and puts a copy back word by word.
+#![tactic(auto)]
+
 ghost use Rattle.std.specs.Prelude.{◌≡◌, min};
 ghost use Rattle.space.specs.Layers.{made_over};
 ghost use Rattle.copying.specs.Copied.{copied, CopiesProper};

@@ -1,4 +1,6 @@
 //! Whole nodes as values: taken out of any space, and put back into a loadable one.
+#![tactic(auto)]
+
 ghost use Rattle.std.specs.Prelude.{◌≡◌, ◌≤◌, take};
 ghost use Rattle.space.specs.Meaning.{words_now, placed};
 

@@ -1,4 +1,6 @@
 //! Reports: the text that a program writes of a record file.
+#![tactic(auto)]
+
 ghost use Rattle.std.specs.Prelude.{IfOk, string_bytes};
 ghost use Rattle.surveys.specs.Surveys.{LeavesOf};
 ghost use Rattle.planner.specs.Reports.{Reports};

@@ -1,20 +1,18 @@
-use Rattle.std.proofs.Common.{◌≡◌, ℕ, zero, suc, ◌+◌, ◌-◌, ◌^◌, ◌<◌, ◌≤◌, Bool, true, false, cond, ◌&&◌, eqb, ltb, ◌⊎◌, List, [], ◌∷◌, length, get_or, take, drop, sym, refl, ap, ◌∙◌, subst, inl, inr, arith, pow_pos}
+use Rattle.std.proofs.Common.{◌≡◌, ℕ, zero, suc, ◌+◌, ◌-◌, ◌^◌, ◌<◌, ◌≤◌, Bool, true, ◌&&◌, eqb, ltb, List, [], ◌∷◌, length, get_or, drop, sym, refl, ap, ◌∙◌, subst, inl, inr, arith, pow_pos}
 use lib.Count.{ones}
-use Rattle.std.proofs.lemmas.List.{get_or-drop, get_or-take, length-take, length-drop}
-use Rattle.std.proofs.lemmas.Bool.{cases_eq, cases_lt, both_ways, and_from, and_parts, cond-true, eqb-true, eq-eqb, lt-ltb, ltb-true}
-use Rattle.std.proofs.lemmas.Bool.Decides.{nat_tests}
-use Rattle.trees.specs.Trees.{Tree, Chooses, Orderly}
-use Rattle.trees.specs.declared.Status.{Status}
-use Rattle.trees.specs.declared.Status.TheVariants.{Failed, Solved, Choice}
-use Rattle.words.specs.Words.{bit, has, Inside, Fit, Proper}
+use Rattle.std.proofs.lemmas.List.{get_or-drop, get_or-take, length-take}
+use Rattle.std.proofs.lemmas.Bool.{and_from, and_parts, cond-true, eqb-true, eq-eqb, lt-ltb, ltb-true}
+use Rattle.trees.specs.Trees.{Orderly}
+use Rattle.trees.specs.declared.Status.TheVariants.{Choice}
+use Rattle.words.specs.Words.{bit, Inside, Fit, Proper}
 use Rattle.nodes.specs.Choosing.{Filled, Empty, status, chosen, smallest, rest, reach, surplus, wide, empty_below}
 use Rattle.words.proofs.Bit.{ones_falls, ones_mono, bit_pow_same}
-use Rattle.nodes.proofs.Emptiness.{empty?, empty_from, filled_none}
+use Rattle.nodes.proofs.Emptiness.{empty?, empty_from}
 use Rattle.nodes.proofs.Chosen.{status_failed, solved_ones, choice_chosen, choice_is}
 use Rattle.nodes.proofs.Counts.{ones_none, ones_pow, ones_inside, rest_most, reach_most, reach_mono, rest_falls, reach_falls, rest_pos, reach_pos}
 use Rattle.propagation.specs.Networks.{Network, Sane}
 use Rattle.propagation.specs.Closing.{closure}
-use Rattle.problems.specs.Problems.{cut, small, zeros, proper, step, values, tree_of, Priced, SolvedCosts}
+use Rattle.problems.specs.Problems.{small, zeros, proper, step, values, tree_of, Priced, SolvedCosts}
 use Rattle.problems.proofs.Narrowing.{Open, part, kept, at_x, part_inside, part_fit, part_differs}
 use Rattle.problems.proofs.Leaves.{choice_open, closure_inside, closure_proper, solved_assigns, step_inside}
 

@@ -1,19 +1,19 @@
-use Rattle.std.proofs.Common.{◌≡◌, ℕ, zero, suc, ◌+◌, ◌^◌, ◌<◌, ◌≤◌, Bool, true, false, cond, ltb, ◌⊎◌, List, [], ◌∷◌, length, get_or, set, replicate, sym, refl, ap, ◌∙◌, subst, inl, inr, arith, pow_pos}
+use Rattle.std.proofs.Common.{◌≡◌, ℕ, zero, suc, ◌^◌, ◌<◌, ◌≤◌, Bool, true, false, cond, ltb, ◌⊎◌, List, [], ◌∷◌, length, get_or, sym, refl, ap, ◌∙◌, subst, inl, inr, arith, pow_pos}
 use lib.Count.{ones, count_trailing_zeros}
 use lib.Pow.{pow-lt}
 use Rattle.std.proofs.lemmas.List.{get_or_past, length-replicate, ext_get_or}
 use Rattle.std.proofs.lemmas.Bool.{cases_eq, cases_lt, both_ways, cond-true, cond-false, lt-ltb, le-ltb}
-use Rattle.trees.specs.Trees.{Tree, Chooses, Leads, Solution}
+use Rattle.trees.specs.Trees.{Leads, Solution}
 use Rattle.trees.specs.declared.Status.{Status}
 use Rattle.trees.specs.declared.Status.TheVariants.{Failed, Solved, Choice}
 use Rattle.words.specs.Words.{bit, has, Inside, Fit, Proper}
-use Rattle.nodes.specs.Choosing.{Filled, Empty, Chosen, status, chosen, smallest}
-use Rattle.words.proofs.Bit.{bit_zero, bit_pow_same, bit_pow_other, some_bit, ones_mono}
+use Rattle.nodes.specs.Choosing.{Filled, Chosen, status, chosen, smallest}
+use Rattle.words.proofs.Bit.{bit_zero, bit_pow_same, some_bit, ones_mono}
 use Rattle.words.proofs.Inside.{same_node, inside_le, in_word}
 use Rattle.nodes.proofs.Emptiness.{empty?}
-use Rattle.nodes.proofs.Chosen.{failed_empty, solved_ones, solved_pow, choice_chosen, choice_is, pow_solved}
+use Rattle.nodes.proofs.Chosen.{failed_empty, solved_pow, choice_chosen, choice_is, pow_solved}
 use Rattle.nodes.proofs.Counts.{ones_pow, pow_value}
-use Rattle.propagation.specs.Networks.{Network, Supported, ClosureOf, Sane, Assigns, dead}
+use Rattle.propagation.specs.Networks.{Network, Supported, Sane, Assigns, dead}
 use Rattle.propagation.specs.Closing.{closure, total, words}
 use Rattle.propagation.proofs.Closures.{closure_supported, dead_word, closure_is, total_le, length_words, get_d_words}
 use Rattle.problems.specs.Problems.{cut, values, tree_of, step, Solves, LeavesSolve}

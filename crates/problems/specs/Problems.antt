@@ -1,6 +1,7 @@
 use Rattle.std.specs.Prelude.{◌≡◌, ℕ, ◌^◌, ◌<◌, ◌≤◌, Bool, true, false, cond, ◌&&◌, List, [], ◌∷◌, length, take, drop, ◌==◌, bit_and, bit_xor, nat_lt, slice_index, slice_set}
 use Rattle.std.specs.Int.Count.{count_trailing_zeros}
 use Rattle.trees.specs.Trees.{Tree, Solution, StrictOrder}
+use Rattle.trees.specs.declared.Status.TheVariants.{Solved}
 use Rattle.words.specs.Words.{has, Inside, Proper}
 use Rattle.nodes.specs.Choosing.{Filled, status, chosen, smallest, rest, reach}
 use Rattle.propagation.specs.Networks.{Network, Sane, Assigns}

@@ -1,8 +1,11 @@
 //! Problems: constraints with start words and costs, and the search tree that they make.
+#![tactic(auto)]
+
 ghost use Rattle.std.specs.Prelude.{◌≡◌, ℕ, ◌<◌, ◌≤◌, Bool, true, List, if◌then◌else◌, Some, None, slice_index, slice_set};
 ghost use Rattle.nodes.specs.Choosing.{empty_below};
 ghost use Rattle.propagation.specs.Closing.{closure};
 ghost use Rattle.propagation.specs.Networks.{Supported};
+ghost use Rattle.words.specs.Words.{Fit};
 ghost use Rattle.trees.specs.Trees.{Orderly};
 ghost use Rattle.problems.specs.Problems.{Lawful, LeavesSolve, Priced, SolvedCosts, cut, narrowed, tree_of};
 
@@ -76,20 +79,19 @@ pub fn child_within<P: Problem>(
     ensures value { (closed ≡ true → Supported (P.Constraints.network problem.now) node.words) → result.words ≡ closure (P.Constraints.network problem.now) (narrowed node.words choice.0 choice.1 alternative) }
     ensures settled { (closed ≡ true → Supported (P.Constraints.network problem.now) node.words) → Supported (P.Constraints.network problem.now) result.words }
 {
-    if !closed {
-        return child(problem, node, choice, alternative);
-    }
     let (variable, value) = choice;
-    close_after(
-        problem,
-        narrow(node, variable as usize, value as u32, alternative < 1),
-        only(variable as u32),
-    )
+    let narrowed = narrow(node, variable as usize, value as u32, alternative < 1);
+    if closed {
+        close_after(problem, narrowed, only(variable as u32))
+    } else {
+        close(problem, narrowed)
+    }
 }
 
 /// The node with one word cut at a value: only that value kept, or only that value removed.
 fn narrow(node: Node, variable: usize, value: u32, keep: bool) -> Node
-    ensures { result.words ≡ slice_set node.words variable (cut (slice_index node.words variable) value keep) }
+    ensures value { result.words ≡ slice_set node.words variable (cut (slice_index node.words variable) value keep) }
+    ensures fit { Fit node.words }
 {
     if variable >= 32 {
         return node;

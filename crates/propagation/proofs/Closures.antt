@@ -1,13 +1,13 @@
-use Rattle.std.proofs.Common.{◌≡◌, ℕ, zero, suc, ◌+◌, ◌-◌, ◌^◌, ◌<◌, ◌≤◌, Bool, true, false, cond, not, ◌&&◌, ◌||◌, eqb, ◌⊎◌, List, [], ◌∷◌, length, get_or, sym, refl, ap, ◌∙◌, subst, inl, inr, add-zero, add-suc, pow-suc, arith}
-use Rattle.std.proofs.lemmas.List.{get_or_default, ext_get_or, get_or_past, get_or-replicate, length-replicate}
+use Rattle.std.proofs.Common.{◌≡◌, ℕ, zero, suc, ◌+◌, ◌^◌, ◌<◌, ◌≤◌, Bool, true, false, cond, ◌&&◌, eqb, List, [], ◌∷◌, length, get_or, sym, refl, ap, ◌∙◌, subst, inl, inr, add-zero, pow-suc, arith}
+use Rattle.std.proofs.lemmas.List.{ext_get_or, get_or_past, get_or-replicate, length-replicate}
 use Rattle.std.proofs.lemmas.Nat.{pow_below, pow_pos, or_lt}
-use Rattle.std.proofs.lemmas.Bool.{cases_eq, cases_lt, cases_Bool, both_ways, and_from, and_parts, or_cases, or_left, or_right, eqb-true, eqb-false, eq-eqb, cond-true, cond-false}
+use Rattle.std.proofs.lemmas.Bool.{cases_eq, cases_lt, both_ways, and_from, and_parts, or_cases, or_left, or_right, eqb-true, eqb-false, cond-true, cond-false}
 use Rattle.words.specs.Words.{bit, has, Inside, Fit}
 use Rattle.nodes.specs.Choosing.{Filled, Empty, empty_below}
 use Rattle.words.proofs.Bit.{bit_of_or, bit_zero, bit_pow_same, bit_pow_other}
 use Rattle.words.proofs.Inside.{same_node, inside_le, has_place}
 use Rattle.nodes.proofs.Emptiness.{empty?, empty_from, filled_none}
-use Rattle.propagation.specs.Networks.{Network, Holds, Supported, Largest, ClosureOf, Sane, dead}
+use Rattle.propagation.specs.Networks.{Network, Supported, Largest, ClosureOf, Sane, dead}
 use Rattle.propagation.specs.Closing.{those, words, supported, sweep, sweeps, total, closure}
 
 -- ---- the total of the words falls

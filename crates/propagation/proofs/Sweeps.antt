@@ -1,8 +1,8 @@
-use Rattle.std.proofs.Common.{◌≡◌, ℕ, zero, suc, ◌+◌, ◌-◌, ◌*◌, ◌^◌, ◌<◌, ◌≤◌, min, Bool, true, false, ◌&&◌, ◌||◌, ◌⊎◌, List, length, get_or, sym, refl, ap, ◌∙◌, subst, inl, inr, arith}
+use Rattle.std.proofs.Common.{◌≡◌, ℕ, ◌+◌, ◌<◌, ◌≤◌, min, Bool, true, false, List, length, get_or, sym, refl, ap, ◌∙◌, inl, inr, arith}
 use lib.Bits.{bit_and, bit_or, or_zero_r}
-use Rattle.std.proofs.lemmas.Bool.{cases_eq, cases_Bool, both_ways, and_from, and_parts, or_parts, or_from}
+use Rattle.std.proofs.lemmas.Bool.{cases_eq, cases_Bool, both_ways, and_from, and_parts, or_parts}
 use Rattle.words.specs.Words.{bit, has, Inside}
-use Rattle.nodes.specs.Choosing.{Filled, Empty, empty_below}
+use Rattle.nodes.specs.Choosing.{Filled}
 use Rattle.propagation.specs.Networks.{Network, Holds, Supported, Largest, Sane, Revised, Differ, Apart, Settled}
 use Rattle.propagation.specs.Closing.{total}
 use Rattle.words.proofs.Bit.{bit_of_and, bit_of_or, bit_zero, some_bit}

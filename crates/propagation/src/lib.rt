@@ -1,4 +1,6 @@
 //! Propagation: the closure of a node, for any family of constraints.
+#![tactic(auto)]
+
 ghost use Rattle.std.specs.Prelude.{◌≡◌, ℕ, ◌<◌, ◌≤◌, true, false, ◌≢◌, bit_and};
 ghost use Rattle.nodes.specs.Choosing.{empty_below};
 ghost use Rattle.propagation.specs.Networks.{Network, Sane, Revised, Differ, ClosureOf, Settled};

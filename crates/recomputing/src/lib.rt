@@ -1,4 +1,6 @@
 //! Recomputing: a layer that holds nodes as depths of a path, and comes back to them by redoing the path.
+#![tactic(auto)]
+
 ghost use Rattle.std.specs.Prelude.{◌≡◌, ◌≤◌, length};
 ghost use Rattle.space.specs.Meaning.{fresh};
 ghost use Rattle.space.specs.Layers.{made_over};

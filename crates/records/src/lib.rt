@@ -1,4 +1,6 @@
 //! Files of records of 136 bytes: what both sorts of file share.
+#![tactic(auto)]
+
 mod checks;
 mod refusal;
 mod words;

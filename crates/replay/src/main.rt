@@ -1,4 +1,6 @@
 //! Makes the calls of a script on a stack of layers over the space of a record file, and prints the answers.
+#![tactic(auto)]
+
 use replays::replay_file;
 use requests::{Unread, read_request};
 use std::io::Read;

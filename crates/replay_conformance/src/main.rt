@@ -1,5 +1,7 @@
 //! Prints, for each case of four arguments (a record file or `staircase`, a stack, an allowance, a script), these and
 //! the answers of the script's calls.
+#![tactic(auto)]
+
 use replays::replay_file;
 use reply_texts::answers_text;
 use requests::read_request;

@@ -1,4 +1,6 @@
 //! Replays: a list of calls made on a stack over the bare space of a file, as text.
+#![tactic(auto)]
+
 ghost use Rattle.std.specs.Prelude.{IfOk, string_bytes};
 ghost use Rattle.records.specs.Checks.{LawfulSum, LawfulTable, sum_code, table_code};
 ghost use Rattle.records.specs.Refusals.{Faulty};

@@ -1,4 +1,6 @@
 //! The answers of a space as text, a line each.
+#![tactic(auto)]
+
 ghost use Rattle.std.specs.Prelude.{◌≡◌, ℕ, List, ◌++◌, IfOk, string_bytes, decimal, OnOk};
 ghost use Rattle.std.specs.Fmt.{signed_decimal};
 ghost use Rattle.reply_texts.specs.Replies.{answer_text, answers_text, pair_text, refusal_text, status_text};

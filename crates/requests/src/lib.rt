@@ -1,4 +1,6 @@
 //! Requests: a stack, an allowance and a list of calls, read from the arguments of a program.
+#![tactic(auto)]
+
 ghost use Rattle.requests.specs.Requests.{Read};
 
 use runs::calls::Call;

@@ -1,4 +1,6 @@
 //! Prints what a record file holds and what propagation leaves open at the root, or why the file is refused.
+#![tactic(auto)]
+
 use planner::report;
 use std::io::Read;
 

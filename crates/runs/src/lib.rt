@@ -1,4 +1,6 @@
 //! Runs: any list of calls made on any space, and the law that it answers as the plain space that it means.
+#![tactic(auto)]
+
 ghost use Rattle.std.specs.Prelude.{◌≡◌, MatchResult};
 ghost use Rattle.runs.specs.Runs.{AnswersAsPlain, after, reply};
 

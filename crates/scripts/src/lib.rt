@@ -1,4 +1,6 @@
 //! The arguments of a program that replays calls on a stack of layers: a number, a stack, a script of calls.
+#![tactic(auto)]
+
 mod numbers;
 mod parts;
 pub mod script;

@@ -1,4 +1,6 @@
 //! Spaces: where a search stands in a tree and what it can go back to, whatever memory keeps it.
+#![tactic(auto)]
+
 ghost use Rattle.std.specs.Prelude.{◌≡◌, ℕ, ◌≤◌, Bool, List, length};
 ghost use Rattle.space.specs.Meaning.{Meaning, status_now, fresh};
 ghost use Rattle.space.specs.Laws.{Lawful, NamedByWords};

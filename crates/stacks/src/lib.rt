@@ -1,4 +1,6 @@
 //! Stacks of layers over a loadable space, and the law that each of them answers as its plain space.
+#![tactic(auto)]
+
 ghost use Rattle.std.specs.Prelude.{◌≡◌, IfOk};
 ghost use Rattle.runs.specs.Runs.{replies};
 ghost use Rattle.stacks.specs.Stacks.{above_over, stack_over};

@@ -1,4 +1,6 @@
 //! A staircase: a space of its own make, whose nodes are more than their words, and which holds two nodes itself.
+#![tactic(auto)]
+
 ghost use Rattle.std.specs.Prelude.{◌≡◌, min, nat_lt};
 ghost use Rattle.staircase.specs.declared.stair.Stair.{Stair};
 ghost use Rattle.staircase.specs.declared.stair.Held.TheVariants.{Nothing};

@@ -1,4 +1,6 @@
 //! The checks of a sum file, record by record.
+#![tactic(auto)]
+
 ghost use Rattle.std.specs.Prelude.{◌≡◌, ℕ, ◌+◌, ◌*◌, ◌/◌, ◌<◌, ◌≤◌, length, drop, MatchResult};
 ghost use Rattle.records.specs.Words.{signed};
 ghost use Rattle.records.specs.Checks.{count, zeros, within, limited, objective_code, bound_code, sum_line_code, sum_code, sum_width, LawfulSum};

@@ -1,4 +1,6 @@
 //! Sum files: checked once, and then read in place.
+#![tactic(auto)]
+
 mod view;
 
 pub use view::SumView;

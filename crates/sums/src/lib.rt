@@ -1,4 +1,5 @@
 //! Sums: problems whose constraints are signed sums, read in place from a sum file.
+#![tactic(auto)]
 
 mod problem;
 mod products;

@@ -1,4 +1,6 @@
 //! The survey of a file.
+#![tactic(auto)]
+
 ghost use Rattle.std.specs.Prelude.{◌≡◌, ℕ, MatchResult};
 ghost use Rattle.records.specs.Checks.{table_code, sum_code, LawfulTable, LawfulSum};
 ghost use Rattle.records.specs.Refusals.{Faulty};

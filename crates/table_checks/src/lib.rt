@@ -1,4 +1,6 @@
 //! The checks of a table file, record by record.
+#![tactic(auto)]
+
 ghost use Rattle.std.specs.Prelude.{◌≡◌, ℕ, ◌+◌, ◌*◌, ◌/◌, ◌<◌, ◌≤◌, length, if◌then◌else◌, MatchResult, nat_eq, slice_index};
 ghost use Rattle.records.specs.Checks.{count, variable_code, pair_code, table_line_code, table_code, LawfulTable};
 ghost use Rattle.records.specs.Tables.{variable_count};

@@ -1,4 +1,6 @@
 //! Table files: checked once, and then read in place.
+#![tactic(auto)]
+
 mod view;
 
 pub use view::TableView;

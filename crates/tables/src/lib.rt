@@ -1,4 +1,6 @@
 //! Tables: constraints on two variables each, with two costs for each value.
+#![tactic(auto)]
+
 mod costs;
 mod partners;
 mod problem;

@@ -1,4 +1,6 @@
 //! The answer as text: lines of words and decimal numbers.
+#![tactic(auto)]
+
 ghost use Rattle.std.specs.Prelude.{◌≡◌, ℕ, ◌<◌, ◌≤◌, min, ◌++◌, IfOk, string_bytes, OnOk};
 ghost use Rattle.texts.specs.Texts.{head_text, root_text, words_text, values_text, status_text, price_text, bound_text, survey_text, refusal_text, text_of};
 

@@ -1,4 +1,6 @@
 //! Traces: the path from the root to the current node, and how deep the held nodes and the checkpoints are.
+#![tactic(auto)]
+
 ghost use Rattle.std.specs.Prelude.{◌≡◌, ◌<◌, ◌≤◌, length};
 
 pub mod looks;

@@ -1,4 +1,6 @@
 //! A layer that keeps the old values of the words that change, and goes back to a held node by putting them back.
+#![tactic(auto)]
+
 ghost use Rattle.std.specs.Prelude.{◌≡◌, ◌≤◌, min, take, None};
 ghost use Rattle.space.specs.Meaning.{words_now};
 ghost use Rattle.space.specs.Layers.{made_over};

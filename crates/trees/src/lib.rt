@@ -1,4 +1,5 @@
 //! Search trees over nodes of any make: what a search can see of a node.
+#![tactic(auto)]
 
 /// Where a search stands at a node.
 #[derive(Clone, Copy)]

@@ -1,10 +1,10 @@
-use Rattle.std.proofs.Common.{◌≡◌, ℕ, zero, suc, ◌+◌, ◌-◌, ◌*◌, ◌/◌, ◌%◌, ◌^◌, ◌<◌, ◌≤◌, min, max, Bool, true, false, cond, not, ◌&&◌, ◌||◌, eqb, ltb, ◌⊎◌, sym, refl, ap, ◌∙◌, subst, inl, inr, mul-le-mul_right, mod-lt, mod-eq_of_lt, mul_comm, mul-le-mul_left, pow-suc, div-add-mod', div-one, add-one, one-add, arith, pow_pos, pow_mono}
+use Rattle.std.proofs.Common.{◌≡◌, ℕ, zero, suc, ◌+◌, ◌-◌, ◌*◌, ◌/◌, ◌%◌, ◌^◌, ◌<◌, ◌≤◌, min, max, Bool, true, false, cond, not, ◌&&◌, ◌||◌, eqb, sym, refl, ap, ◌∙◌, subst, inl, inr, mul-le-mul_right, mod-eq_of_lt, mul_comm, mul-le-mul_left, pow-suc, div-one, one-add, arith, pow_pos, pow_mono}
 use native.Mathlib.Nat.{div-eq_of_lt}
 use lib.Count.{count_trailing_zeros, count_leading_zeros, leading_top, under, ones, ones_step, ones-ones}
 use lib.Bits.{bit_and, bit_or, bit_xor, differ, and_step, or_step, xor_step, and_shr, or_shr, xor_shr}
 use lib.Arith.{bin_ind}
 use Rattle.std.proofs.lemmas.Nat.{shr-shr, le-div, div_below, one_shl, pow-add, pow_below, shl-shr, and_le_r, mod-pow-add, mod_below}
-use Rattle.std.proofs.lemmas.Bool.{eqb-true, eqb-false, eq-eqb, ne_eqb, cases_order, cases_eq, cases_lt, cases_Bool, both_ways, and_from, and_parts, not_from_false, not-true}
+use Rattle.std.proofs.lemmas.Bool.{eqb-true, cases_order, cases_eq, cases_lt, cases_Bool, both_ways, and_from, and_parts, not_from_false, not-true}
 use Rattle.std.proofs.lemmas.Bool.Decides.{nat_tests}
 use Rattle.words.specs.Words.{bit, Lowest, Highest, Only, Without}
 

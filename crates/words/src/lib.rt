@@ -1,4 +1,6 @@
 //! A word as a set of the values 0 to 31.
+#![tactic(auto)]
+
 ghost use Rattle.std.specs.Prelude.{◌≡◌, ℕ, ◌<◌, ◌≤◌, true, false, ◌≢◌};
 ghost use Rattle.words.specs.Words.{bit, Without, Only, Lowest, Highest, Change};
 

@@ -1,4 +1,4 @@
-use Rattle.std.proofs.Common.{◌≡◌, sym, refl, ap, ◌∙◌}
+use Rattle.std.proofs.Common.{ap, ◌∙◌}
 use Rattle.problems.proofs.Leaves.{leaves_solve}
 use Rattle.problems.proofs.Laws.{orderly, solved_costs}
 use Rattle.propagation.specs.Closing.{closure}

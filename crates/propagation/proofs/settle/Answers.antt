@@ -1,22 +1,21 @@
-use Rattle.std.proofs.Common.{◌≡◌, ℕ, ◌^◌, ◌<◌, ◌≤◌, Bool, true, false, ◌⊎◌, List, length, get_or, sym, refl, ap, ◌∙◌, subst, inl, inr, arith, rules}
-use Rattle.std.proofs.lemmas.Bool.{both_ways, cases_eq}
+use Rattle.std.proofs.Common.{◌≡◌, ℕ, ◌<◌, false, sym, refl, subst, inl, inr, arith, rules}
+use Rattle.std.proofs.lemmas.Bool.{cases_eq}
 use Rattle.words.specs.Words.{Fit}
-use Rattle.nodes.specs.Choosing.{Empty, Filled, empty_below}
-use Rattle.nodes.proofs.Emptiness.{empty_some, empty_from, none_filled}
+use Rattle.nodes.specs.Choosing.{Filled}
+use Rattle.nodes.proofs.Emptiness.{empty_some, none_filled}
 use Rattle.propagation.specs.Networks.{Settled, dead}
-use Rattle.propagation.specs.Closing.{closure}
 use Rattle.propagation.proofs.Closures.{ends_alive, ends_dead, closure_law}
-use Rattle.propagation.proofs.Sweeps.{begin, enter, leave, skip, revise, saves, still, ends}
+use Rattle.propagation.proofs.Sweeps.{begin, leave, skip, revise, saves, still, ends}
 use Rattle.propagation.proofs.settle.Goals as goal
 use Rattle.propagation.proofs.settle.Goals.{then-due+else-emptied, else-due}
 
-pub returns-then-has-empty : goal.returns-then-has-empty
-returns-then-has-empty g c =
+pub returns-then-has_empty : goal.returns-then-has_empty
+returns-then-has_empty g c =
     let p = g.P.Constraints.network c.args.problem.now in
     let n = c.args.start.words in
     let sane = c.count-count.ensures.sane in
     let fit : Fit n = record { long = search rules; small = λ i. search rules } in
-    let e = empty_some c.width-width.result n (sym c.if-has-empty.ensures) in
+    let e = empty_some c.width-width.result n (sym c.if-has_empty.ensures) in
     let d = ends_dead p sane n n fit (λ o h _. h) (e.0, omega (arith, e.1, c.width-width.ensures.value), e.2) in
     record { value = λ _. d; largest = λ _. closure_law p sane n dead fit d; sane = sane }
 
@@ -25,7 +24,7 @@ sweeps-init g c =
     let p = g.P.Constraints.network c.args.problem.now in
     let n = c.args.start.words in
     let F : ℕ → Type 0 = (λ w. Filled w n) in
-    begin p c.count-count.ensures.sane n c.args.every c.args.moved (search rules) (subst F c.width-width.ensures.value (none_filled _ n (sym c.if-has-empty.ensures)))
+    begin p c.count-count.ensures.sane n c.args.every c.args.moved (search rules) (subst F c.width-width.ensures.value (none_filled _ n (sym c.if-has_empty.ensures)))
 
 pub returns-then-emptied : goal.returns-then-emptied
 returns-then-emptied g c =
@@ -76,7 +75,7 @@ returns-then-changed-eq0 g c =
     let sane = c.count-count.ensures.sane in
     let fit : Fit n = record { long = search rules; small = λ i. search rules } in
     let F : ℕ → Type 0 = (λ w. Filled w n) in
-    let full = subst F c.width-width.ensures.value (none_filled _ n (sym c.if-has-empty.ensures)) in
+    let full = subst F c.width-width.ensures.value (none_filled _ n (sym c.if-has_empty.ensures)) in
     let q = leave p sane n c.sweeps.node.words c.each.node.words c.args.every c.args.moved c.sweeps.first c.sweeps.changed c.each.changed c.each.k (omega (arith, c.count-count.ensures.value)) c.sweeps.invariant c.each.invariant in
     let z = c.if-changed-eq0.true in
     let e = λ (g : c.args.every ≡ false → Settled p n c.args.moved). ends_alive p sane n c.each.node.words fit q.long (ends p sane n c.each.node.words c.args.every c.args.moved g full (rw z at q)) q.filled in

@@ -6,10 +6,10 @@ use Rattle.records.proofs.Unique.{no_fault}
 use Rattle.surveys.proofs.Files.{table_seen, table_solved}
 use Rattle.surveys.proofs.survey_tables.Goals as goal
 
-pub returns-in-err-read : goal.returns-in-err-read
-returns-in-err-read c =
+pub returns-in_err-read : goal.returns-in_err-read
+returns-in_err-read c =
     let p = err_from_is_err_and c.from-residual.result c.from-residual.ensures.1 in
-    let h = c.in-err-read.ensures.answer in
+    let h = c.in_err-read.ensures.answer in
     record {
       answer = rw (p.1, p.2) h.0;
       leaves = λ l. absurd (no_fault table_code c.args.bytes.now _ _ l h.0);
@@ -17,7 +17,7 @@ returns-in-err-read c =
 
 pub returns : goal.returns
 returns c =
-    let h = c.in-ok-read.ensures.answer in
+    let h = c.in_ok-read.ensures.answer in
     let e = c.new.ensures.file ∙ h.1 in
     record {
       answer = record {
@@ -27,7 +27,7 @@ returns c =
         long = c.tables.ensures.value ∙ ap table_count h.1;
         least = c.look-status.result.2;
         seen = table_seen _ _ _ _ _ e c.look-status.ensures.seen;
-        shown = c.pair-price.ensures;
+        shown = c.pair_price.ensures;
       };
       leaves = λ _. table_solved _ _ e c.look-status.ensures.leaves;
     }

@@ -7,5 +7,5 @@ use Rattle.texts.proofs.put_root.Goals as goal
 pub returns : goal.returns
 returns c =
     IfOk-weaker c.writeln.result _ _
-    (λ _ e. joined _ _ _ _ (codes "root") (words_text c.args.survey.now.root.words c.args.survey.now.variables) end c.in-ok-write.ensures.bytes c.in-ok-put-words.ensures e)
+    (λ _ e. joined _ _ _ _ (codes "root") (words_text c.args.survey.now.root.words c.args.survey.now.variables) end c.in_ok-write.ensures.bytes c.in_ok-put_words.ensures e)
     c.writeln.ensures.bytes

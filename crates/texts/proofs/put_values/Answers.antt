@@ -7,5 +7,5 @@ loop-i-init c = listed_none _ _
 
 pub loop-i-preserved : goal.loop-i-preserved
 loop-i-preserved c =
-    let word : Fits w32 (get_or c.args.node.now.words c.loop-i.i 0) = search (rules, c.type-inv.node) in
-    listed_more _ _ _ _ c.loop-i.i _ c.loop-i.invariant (lowest_is _ _ word.fits c.lowest_value.ensures.least c.lowest_value.ensures.none) c.in-ok-write.ensures.bytes
+    let word : Fits w32 (get_or c.args.node.now.words c.loop-i.i 0) = search (rules, c.type_inv.node) in
+    listed_more _ _ _ _ c.loop-i.i _ c.loop-i.invariant (lowest_is _ _ word.fits c.lowest_value.ensures.least c.lowest_value.ensures.none) c.in_ok-write.ensures.bytes

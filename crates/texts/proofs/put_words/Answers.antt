@@ -6,4 +6,4 @@ pub loop-i-init : goal.loop-i-init
 loop-i-init c = listed_none _ _
 
 pub loop-i-preserved : goal.loop-i-preserved
-loop-i-preserved c = listed_more _ _ _ _ c.loop-i.i _ c.loop-i.invariant refl c.in-ok-write.ensures.bytes
+loop-i-preserved c = listed_more _ _ _ _ c.loop-i.i _ c.loop-i.invariant refl c.in_ok-write.ensures.bytes

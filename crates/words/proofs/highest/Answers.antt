@@ -1,4 +1,4 @@
-use Rattle.std.proofs.Common.{◌≡◌, ℕ, ◌-◌, sym, refl, ap, ◌∙◌, subst}
+use Rattle.std.proofs.Common.{ℕ, ◌-◌, sym, ap, ◌∙◌, subst}
 use lib.Count.{count_leading_zeros}
 use Rattle.words.specs.Words.{Highest}
 use Rattle.words.proofs.Bit.{is_highest}
@@ -7,7 +7,7 @@ use Rattle.words.proofs.highest.Goals as goal
 pub returns : goal.returns
 unfolding count_leading_zeros
 returns c =
-    let e = c.saturating-sub.ensures in
+    let e = c.saturating_sub.ensures in
     let P : ℕ → Type 0 = (λ v. Highest c.args.word v) in
     record {
       most = λ ne. subst P (sym e) (is_highest c.args.word ne c.ranges.word.fits).1;

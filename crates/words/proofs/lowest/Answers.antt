@@ -1,4 +1,4 @@
-use Rattle.std.proofs.Common.{◌≡◌, ℕ, refl, ap}
+use Rattle.std.proofs.Common.{ℕ, ap}
 use lib.Count.{count_trailing_zeros}
 use Rattle.words.proofs.Bit.{is_lowest}
 use Rattle.words.proofs.lowest.Goals as goal

@@ -26,6 +26,6 @@ returns g c =
     let q = c.args.self.now.problem in
     let n = c.args.self.now.current.words in
     record {
-      means = (λ s. commit_done (g.P.Constraints.network q) (g.P.Problem.start q) (g.P.Problem.bound q) (g.P.Problem.cost q) c.args.self.now.root.words n c.child-within-self.result.words c.args.self.now.allowance c.args.alternative c.args.self.now.known (Some c.status.result) c.args.self.now.closed c.in-Ok.choice s (c.in-Ok.ensures s) (omega arith) (c.child-within-self.ensures.value s.here_closed) (c.child-within-self.ensures.settled s.here_closed) (ap Some (c.status.ensures.value ∙ ap (λ (w : ℕ). status w c.child-within-self.result.words) c.width.ensures.value)));
+      means = (λ s. commit_done (g.P.Constraints.network q) (g.P.Problem.start q) (g.P.Problem.bound q) (g.P.Problem.cost q) c.args.self.now.root.words n c.child_within-self.result.words c.args.self.now.allowance c.args.alternative c.args.self.now.known (Some c.status.result) c.args.self.now.closed c.in-Ok.choice s (c.in-Ok.ensures s) (omega arith) (c.child_within-self.ensures.value s.here_closed) (c.child_within-self.ensures.settled s.here_closed) (ap Some (c.status.ensures.value ∙ ap (λ (w : ℕ). status w c.child_within-self.result.words) c.width.ensures.value)));
       spends = omega arith;
     }

@@ -17,7 +17,7 @@ returns g c = record {
       let b = c.args.self.now.below in
       let k = c.args.self.now.copies in
       let m = g.S.Space.meaning b in
-      let t = marks g.S.Space.named m k.nodes k.count k.capacity c.copy-out.result (omega (arith, k.bounds.0, k.bounds.1, k.bounds.2)) (omega arith) (g.met.S.Space.lawful b s.0) (g.met.S.Loadable.only b s.0) (c.copy-out.ensures s.0) s.1 in
+      let t = marks g.S.Space.named m k.nodes k.count k.capacity c.copy_out.result (omega (arith, k.bounds.0, k.bounds.1, k.bounds.2)) (omega arith) (g.met.S.Space.lawful b s.0) (g.met.S.Loadable.only b s.0) (c.copy_out.ensures s.0) s.1 in
       (t.0, (s.0, t.1));
   spends = omega arith;
 }

@@ -6,17 +6,17 @@ use Rattle.nodes.proofs.choosing.reach.Goals.{then-node-i-gt1, else-node-i-gt1}
 pub loop-i-init : goal.loop-i-init
 loop-i-init c = sym (wide_none c.args.node.now.words)
 
-pub offset-bounds-node-i : goal.offset-bounds-node-i
-offset-bounds-node-i c =
-    let l : c.loop-i.i < 32 = within c.args.width c.args.node.now.words c.loop-i.i (search rules) c.if-has-empty.ensures c.loop-i-test.true in
+pub offset_bounds-node-i : goal.offset_bounds-node-i
+offset_bounds-node-i c =
+    let l : c.loop-i.i < 32 = within c.args.width c.args.node.now.words c.loop-i.i (search rules) c.if-has_empty.ensures c.loop-i-test.true in
     search rules
 
 pub bounds-node-i : goal.bounds-node-i
-bounds-node-i c = within c.args.width c.args.node.now.words c.loop-i.i (search rules) c.if-has-empty.ensures c.loop-i-test.true
+bounds-node-i c = within c.args.width c.args.node.now.words c.loop-i.i (search rules) c.if-has_empty.ensures c.loop-i-test.true
 
-pub overflow-add-wide : goal.overflow-add-wide
-overflow-add-wide c =
-    let l : c.loop-i.i < 32 = within c.args.width c.args.node.now.words c.loop-i.i (search rules) c.if-has-empty.ensures c.loop-i-test.true in
+pub overflow_add-wide : goal.overflow_add-wide
+overflow_add-wide c =
+    let l : c.loop-i.i < 32 = within c.args.width c.args.node.now.words c.loop-i.i (search rules) c.if-has_empty.ensures c.loop-i-test.true in
     let few : c.loop-i.wide < 32 = omega (arith, c.loop-i.invariant, wide_most c.loop-i.i c.args.node.now.words) in
     search rules
 

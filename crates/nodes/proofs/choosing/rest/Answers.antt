@@ -8,21 +8,21 @@ use Rattle.nodes.proofs.choosing.rest.Goals as goal
 pub loop-i-init : goal.loop-i-init
 loop-i-init c = sym (surplus_none c.args.node.now.words)
 
-pub offset-bounds-node-i : goal.offset-bounds-node-i
-offset-bounds-node-i c =
-    let l : c.loop-i.i < 32 = within c.args.width c.args.node.now.words c.loop-i.i (search rules) c.if-has-empty.ensures c.loop-i-test.true in
+pub offset_bounds-node-i : goal.offset_bounds-node-i
+offset_bounds-node-i c =
+    let l : c.loop-i.i < 32 = within c.args.width c.args.node.now.words c.loop-i.i (search rules) c.if-has_empty.ensures c.loop-i-test.true in
     search rules
 
 pub bounds-node-i : goal.bounds-node-i
-bounds-node-i c = within c.args.width c.args.node.now.words c.loop-i.i (search rules) c.if-has-empty.ensures c.loop-i-test.true
+bounds-node-i c = within c.args.width c.args.node.now.words c.loop-i.i (search rules) c.if-has_empty.ensures c.loop-i-test.true
 
-pub overflow-sub-surplus : goal.overflow-sub-surplus
-overflow-sub-surplus c = filled_ones c.args.width c.args.node.now.words (none_filled _ _ (sym c.if-has-empty.ensures)) c.loop-i.i c.loop-i-test.true
+pub overflow_sub-surplus : goal.overflow_sub-surplus
+overflow_sub-surplus c = filled_ones c.args.width c.args.node.now.words (none_filled _ _ (sym c.if-has_empty.ensures)) c.loop-i.i c.loop-i-test.true
 
-pub overflow-add-surplus : goal.overflow-add-surplus
-overflow-add-surplus c =
-    let l : c.loop-i.i < 32 = within c.args.width c.args.node.now.words c.loop-i.i (search rules) c.if-has-empty.ensures c.loop-i-test.true in
-    let word : (i : ℕ) → Fits w32 (get_or c.args.node.now.words i 0) = (λ i. search (rules, c.type-inv.node)) in
+pub overflow_add-surplus : goal.overflow_add-surplus
+overflow_add-surplus c =
+    let l : c.loop-i.i < 32 = within c.args.width c.args.node.now.words c.loop-i.i (search rules) c.if-has_empty.ensures c.loop-i-test.true in
+    let word : (i : ℕ) → Fits w32 (get_or c.args.node.now.words i 0) = (λ i. search (rules, c.type_inv.node)) in
     let fit : Fit c.args.node.now.words = record { long = search rules; small = λ i. (word i).fits } in
     let most : ones (get_or c.args.node.now.words c.loop-i.i 0) ≤ 32 = ones_most _ (fit.small c.loop-i.i) in
     let before : c.loop-i.surplus ≤ 992 = omega (arith, c.loop-i.invariant, surplus_most c.loop-i.i c.args.node.now.words fit) in

@@ -8,17 +8,17 @@ pub loop-x-preserved : goal.loop-x-preserved
 loop-x-preserved c = (
   omega arith,
   one_digit 1000000000000 c.loop-x.number c.min-number.result c.from.result c.loop-x.x-index c.args.text.now _ (omega arith)
-      (sym c.digit.ensures ∙ (c.in-ok-value.was ∙ ap Some (sym c.from.ensures))) c.min-number.ensures c.loop-x.invariant.1,
+      (sym c.digit.ensures ∙ (c.in_ok-value.was ∙ ap Some (sym c.from.ensures))) c.min-number.ensures c.loop-x.invariant.1,
 )
 
-pub returns-in-err-value : goal.returns-in-err-value
-returns-in-err-value c =
+pub returns-in_err-value : goal.returns-in_err-value
+returns-in_err-value c =
     c.from-residual.ensures
-    ∙ no_digit 1000000000000 c.loop-x.number c.loop-x.x-index c.args.text.now (omega arith) (sym c.digit.ensures ∙ c.in-err-value.was) c.loop-x.invariant.1
+    ∙ no_digit 1000000000000 c.loop-x.number c.loop-x.x-index c.args.text.now (omega arith) (sym c.digit.ensures ∙ c.in_err-value.was) c.loop-x.invariant.1
 
-pub returns-then-is-empty : goal.returns-then-is-empty
-returns-then-is-empty c = sym (ap (capped 1000000000000) (no_value c.args.text.now (eqb-true _ _ (sym c.if-is-empty.ensures))))
+pub returns-then-is_empty : goal.returns-then-is_empty
+returns-then-is_empty c = sym (ap (capped 1000000000000) (no_value c.args.text.now (eqb-true _ _ (sym c.if-is_empty.ensures))))
 
-pub returns-else-is-empty : goal.returns-else-is-empty
-returns-else-is-empty c =
-    all_digits 1000000000000 c.loop-x.number c.loop-x.x-index c.args.text.now (omega (arith, eqb-false _ _ (sym c.if-is-empty.ensures))) (omega arith) (omega arith) c.loop-x.invariant.1
+pub returns-else-is_empty : goal.returns-else-is_empty
+returns-else-is_empty c =
+    all_digits 1000000000000 c.loop-x.number c.loop-x.x-index c.args.text.now (omega (arith, eqb-false _ _ (sym c.if-is_empty.ensures))) (omega arith) (omega arith) c.loop-x.invariant.1

@@ -10,19 +10,19 @@ use Rattle.scripts.proofs.script.read_script.Goals as goal
 pub loop-calls-init : goal.loop-calls-init
 loop-calls-init c = (omega arith, read_none _ _ c.new-calls.ensures.items)
 
-pub returns-in-err-add-line : goal.returns-in-err-add-line
-returns-in-err-add-line c =
+pub returns-in_err-add_line : goal.returns-in_err-add_line
+returns-in_err-add_line c =
     let p = err_from_is_err_and c.from-residual.result c.from-residual.ensures.1 in
-    rw (p.1, p.2) (refused c.loop-calls.invariant.1 c.cut.ensures.parts _ c.in-err-add-line.ensures)
+    rw (p.1, p.2) (refused c.loop-calls.invariant.1 c.cut.ensures.parts _ c.in_err-add_line.ensures)
 
-pub returns-in-default : goal.returns-in-default
-returns-in-default c =
-    let a = c.in-ok-add-line.ensures in
-    read_all c.loop-calls.invariant.1 c.cut.ensures.parts (vec_items c.add-line.new.calls) a.0 a.1 (ap (λ o. split_rest LineEnd (option_map (λ x. x.now) o)) c.in-default.is)
+pub returns-in_default : goal.returns-in_default
+returns-in_default c =
+    let a = c.in_ok-add_line.ensures in
+    read_all c.loop-calls.invariant.1 c.cut.ensures.parts (vec_items c.add_line.new.calls) a.0 a.1 (ap (λ o. split_rest LineEnd (option_map (λ x. x.now) o)) c.in_default.is)
 
 pub loop-calls-preserved : goal.loop-calls-preserved
 loop-calls-preserved c =
-    let a = c.in-ok-add-line.ensures in (
+    let a = c.in_ok-add_line.ensures in (
       omega (arith, MatchOption-at_some _ _ _ c.in-Some.is c.cut.ensures.shorter),
-      read_more c.loop-calls.invariant.1 c.cut.ensures.parts (vec_items c.add-line.new.calls) a.0 a.1 c.in-Some.next.now (ap (λ o. split_rest LineEnd (option_map (λ x. x.now) o)) c.in-Some.is),
+      read_more c.loop-calls.invariant.1 c.cut.ensures.parts (vec_items c.add_line.new.calls) a.0 a.1 c.in-Some.next.now (ap (λ o. split_rest LineEnd (option_map (λ x. x.now) o)) c.in-Some.is),
     )

@@ -4,8 +4,8 @@ use Rattle.scripts.specs.Stacks.{numbered_part}
 use Rattle.scripts.proofs.Stacked.{one_field, two_fields, more_fields}
 use Rattle.scripts.proofs.stack.read_part.Goals as goal
 
-pub returns-in-default : goal.returns-in-default
-returns-in-default c = c.plain_part.ensures ∙ one_field _ _ _ c.cut.ensures.parts (ap (option_map (λ x. x.now)) c.in-default.is)
+pub returns-in_default : goal.returns-in_default
+returns-in_default c = c.plain_part.ensures ∙ one_field _ _ _ c.cut.ensures.parts (ap (option_map (λ x. x.now)) c.in_default.is)
 
 pub returns-in-Some-more : goal.returns-in-Some-more
 returns-in-Some-more c =
@@ -13,5 +13,5 @@ returns-in-Some-more c =
 
 pub returns-in-None : goal.returns-in-None
 returns-in-None c =
-    c.numbered_part.ensures ∙ (ap (numbered_part c.cut.result.0.now) c.read-byte.ensures
+    c.numbered_part.ensures ∙ (ap (numbered_part c.cut.result.0.now) c.read_byte.ensures
     ∙ two_fields _ _ _ c.cut.ensures.parts _ _ _ (ap (option_map (λ x. x.now)) c.in-Some.is) c.cut-2.ensures.parts (ap (option_map (λ x. x.now)) c.in-None.is))

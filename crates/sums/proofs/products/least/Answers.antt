@@ -8,7 +8,7 @@ use Rattle.sums.proofs.products.least.Goals as goal
 pub returns : goal.returns
 unfolding smallest_product
 returns c =
-    let fit : SFits w64 c.end-product.result = record { sfits = c.end-product.type-inv } in
+    let fit : SFits w64 c.end_product.result = record { sfits = c.end_product.type_inv } in
     let e = to_z-of_z w32 c.args.c c.ranges.c in
-    let v = same_end c.end-product.result _ c.args.c c.args.word _ (not (lt_z c.args.c (pos 0))) fit c.end-product.ensures.value e (from_zero _ c.args.c e) in
-    record { value = v; low = omega (arith, ints, c.end-product.ensures.low); high = omega (arith, ints, c.end-product.ensures.high) }
+    let v = same_end c.end_product.result _ c.args.c c.args.word _ (not (lt_z c.args.c (pos 0))) fit c.end_product.ensures.value e (from_zero _ c.args.c e) in
+    record { value = v; low = omega (arith, ints, c.end_product.ensures.low); high = omega (arith, ints, c.end_product.ensures.high) }

@@ -18,10 +18,10 @@ loop-left-preserved c =
     let p : c.product.result ≡ k *ℤ pos c.lowest_value.result = c.product.ensures.value in
     elim c.if-product-need.branch [
       | then-product-need w ↦
-          (let h : (k *ℤ pos c.lowest_value.result) <ℤ n = lt_of _ _ _ (record { sfits = c.product.type-inv }) p w.if-product-need.true in
+          (let h : (k *ℤ pos c.lowest_value.result) <ℤ n = lt_of _ _ _ (record { sfits = c.product.type_inv }) p w.if-product-need.true in
           misses _ _ _ _ _ _ _ c.loop-left.invariant c.without-left.ensures h _ (let e = w.supported-is in rw e w.without-supported.ensures))
       | else-product-need w ↦
-          (let h : n ≤ℤ (k *ℤ pos c.lowest_value.result) = le_of _ _ _ (record { sfits = c.product.type-inv }) p w.if-product-need.false in
+          (let h : n ≤ℤ (k *ℤ pos c.lowest_value.result) = le_of _ _ _ (record { sfits = c.product.type_inv }) p w.if-product-need.false in
           let e = w.supported-is in rw e (reaches _ _ _ _ _ _ _ c.loop-left.invariant c.without-left.ensures h))
     ]
 
@@ -36,4 +36,4 @@ returns c =
 pub returns-then-least-need : goal.returns-then-least-need
 returns-then-least-need c =
     all_reach c.args.c c.args.word c.args.need c.requires.0
-    (above c.args.need c.least.result c.args.c _ c.args.word _ (to_z-of_z w64 c.args.need c.ranges.need) (record { sfits = c.least.type-inv }) c.least.ensures.value (to_z-of_z w32 c.args.c c.ranges.c) c.if-least-need.true)
+    (above c.args.need c.least.result c.args.c _ c.args.word _ (to_z-of_z w64 c.args.need c.ranges.need) (record { sfits = c.least.type_inv }) c.least.ensures.value (to_z-of_z w32 c.args.c c.ranges.c) c.if-least-need.true)

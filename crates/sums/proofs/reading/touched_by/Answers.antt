@@ -5,7 +5,7 @@ use Rattle.sum_networks.specs.Sums.{mask}
 use Rattle.sum_networks.specs.Files.{sum_at}
 use Rattle.sum_networks.proofs.Cutting.{mask_yes, mask_no}
 use Rattle.sums.proofs.reading.touched_by.Goals as goal
-use Rattle.sums.proofs.reading.touched_by.Goals.{then-coefficient-of-ne0, else-coefficient-of-ne0}
+use Rattle.sums.proofs.reading.touched_by.Goals.{then-coefficient_of-ne0, else-coefficient_of-ne0}
 
 pub loop-i-init : goal.loop-i-init
 unfolding mask
@@ -14,15 +14,15 @@ loop-i-init c = refl
 pub loop-i-preserved : goal.loop-i-preserved
 loop-i-preserved c =
     let s = sum_at (sum_bytes_of c.args.view.now) c.args.k in
-    let v = c.coefficient-of.ensures.value in
-    elim c.if-coefficient-of-ne0.branch [
-      | then-coefficient-of-ne0 w ↦
+    let v = c.coefficient_of.ensures.value in
+    elim c.if-coefficient_of-ne0.branch [
+      | then-coefficient_of-ne0 w ↦
           w.touched-is
           ∙ mask_yes s c.loop-i.i c.loop-i.touched w.only-touched.result c.loop-i.invariant
           (w.only-touched.ensures.one (omega (arith, c.loop-i-test.true, c.variables-i-end.ensures.high))).is
-          (λ z. w.if-coefficient-of-ne0.true (ap (of_z w32) (v ∙ z)))
-      | else-coefficient-of-ne0 w ↦
+          (λ z. w.if-coefficient_of-ne0.true (ap (of_z w32) (v ∙ z)))
+      | else-coefficient_of-ne0 w ↦
           w.touched-is
           ∙ mask_no s c.loop-i.i c.loop-i.touched c.loop-i.invariant
-          (sym v ∙ sym (to_z-of_z w32 c.coefficient-of.result (record { sfits = c.coefficient-of.type-inv })) ∙ ap (to_z w32) w.if-coefficient-of-ne0.false)
+          (sym v ∙ sym (to_z-of_z w32 c.coefficient_of.result (record { sfits = c.coefficient_of.type_inv })) ∙ ap (to_z w32) w.if-coefficient_of-ne0.false)
     ]

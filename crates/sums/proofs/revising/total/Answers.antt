@@ -7,7 +7,7 @@ use Rattle.sums.proofs.revising.total.Goals as goal
 
 pub loop-j-preserved : goal.loop-j-preserved
 loop-j-preserved c =
-    let fit : SFits w32 c.coefficient-of.result = record { sfits = c.coefficient-of.type-inv } in
+    let fit : SFits w32 c.coefficient_of.result = record { sfits = c.coefficient_of.type_inv } in
     let m = total_more (coefficient_at (sum_bytes_of c.args.view.now) c.args.k) c.args.node.now.words c.loop-j.j c.loop-j.sum c.most-sum.result _
-    (sym c.loop-j.sum_is ∙ c.loop-j.invariant.0) c.most-sum.ensures.value (to_z-of_z w32 c.coefficient-of.result fit ∙ c.coefficient-of.ensures.value) in
+    (sym c.loop-j.sum_is ∙ c.loop-j.invariant.0) c.most-sum.ensures.value (to_z-of_z w32 c.coefficient_of.result fit ∙ c.coefficient_of.ensures.value) in
     (omega (arith, ints) ∙ m, omega (arith, ints), omega (arith, ints))

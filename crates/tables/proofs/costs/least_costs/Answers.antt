@@ -6,7 +6,7 @@ pub loop-left-init : goal.loop-left-init
 loop-left-init c =
     let low = (c.lowest-first.ensures.least c.requires.1).there in
     let out = c.without-left.ensures in
-    (seen_one _ _ _ _ _ low c.costs-of-stops.ensures.stops out, seen_one _ _ _ _ _ low c.costs-of-stops.ensures.minutes out)
+    (seen_one _ _ _ _ _ low c.costs_of-stops.ensures.stops out, seen_one _ _ _ _ _ low c.costs_of-stops.ensures.minutes out)
 
 pub loop-left-smaller : goal.loop-left-smaller
 loop-left-smaller c = without_less _ _ _ c.without-left-in-loop-left.ensures (c.lowest-v.ensures.least c.loop-left-test.true).there
@@ -17,8 +17,8 @@ loop-left-preserved c =
     let out = c.without-left-in-loop-left.ensures in
     let s = c.min-stops.ensures in
     let m = c.min-minutes.ensures in (
-      rw s (seen_more _ _ _ _ _ _ _ c.loop-left.invariant.0 low c.costs-of-s.ensures.stops out),
-      rw m (seen_more _ _ _ _ _ _ _ c.loop-left.invariant.1 low c.costs-of-s.ensures.minutes out),
+      rw s (seen_more _ _ _ _ _ _ _ c.loop-left.invariant.0 low c.costs_of-s.ensures.stops out),
+      rw m (seen_more _ _ _ _ _ _ _ c.loop-left.invariant.1 low c.costs_of-s.ensures.minutes out),
     )
 
 pub returns : goal.returns

@@ -16,7 +16,7 @@ loop-left-smaller c = without_less _ _ _ c.without-left.ensures (c.lowest-a.ensu
 pub loop-left-preserved : goal.loop-left-preserved
 loop-left-preserved c =
     let low = c.lowest-a.ensures.least c.loop-left-test.true in
-    let is = ap (λ (x : ℕ). bit_and x c.args.wy) {y = table_row (bytes_of c.args.view.now) c.args.k c.lowest-a.result} c.row-of.ensures in
+    let is = ap (λ (x : ℕ). bit_and x c.args.wy) {y = table_row (bytes_of c.args.view.now) c.args.k c.lowest-a.result} c.row_of.ensures in
     elim c.if-row-eq0.branch [
       | then-row-eq0 w ↦ goes _ _ _ _ _ _ _ _ _ c.loop-left.invariant low is c.without-left.ensures w.if-row-eq0.true _
           (let e = w.supported-is in rw e w.without-supported.ensures)

@@ -16,8 +16,8 @@ pub returns : goal.returns
 returns g c = record {
   means = λ s.
       let t = c.args.self.now in
-      let k = c.put-back.ensures.means s.0 s.1.seen in
-      let f = restores g.S.Space.named (g.S.Space.meaning t.below) (g.S.Space.meaning c.put-back.new.below) (segments t.trail) (segments c.put-back.new.trail) t.seen.words c.put-back.new.seen.words t.capacity s.1 (omega (arith, c.count.ensures)) k.0 c.put-back.ensures.all (g.met.S.Space.lawful c.put-back.new.below k.1) (g.met.S.Loadable.only c.put-back.new.below k.1) in
+      let k = c.put_back.ensures.means s.0 s.1.seen in
+      let f = restores g.S.Space.named (g.S.Space.meaning t.below) (g.S.Space.meaning c.put_back.new.below) (segments t.trail) (segments c.put_back.new.trail) t.seen.words c.put_back.new.seen.words t.capacity s.1 (omega (arith, c.count.ensures)) k.0 c.put_back.ensures.all (g.met.S.Space.lawful c.put_back.new.below k.1) (g.met.S.Loadable.only c.put_back.new.below k.1) in
       (f.0, (k.1, f.1));
-  spends = c.put-back.ensures.spends;
+  spends = c.put_back.ensures.spends;
 }

@@ -15,12 +15,12 @@ pub loop-k-preserved : goal.loop-k-preserved
 loop-k-preserved c =
     let bs = sum_bytes_of c.args.view in
     let below : c.loop-k.k < length c.loop-k.touched = omega (arith, c.loop-k-test.true, c.sums-k-end.ensures.high, c.loop-k.invariant.0) in (
-      length-set c.loop-k.touched c.loop-k.k c.touched-by.result ∙ c.loop-k.invariant.0,
-      filled_more (λ (j : ℕ). mask (sum_at bs j) (sum_width bs)) c.loop-k.touched c.loop-k.k c.touched-by.result below c.touched-by.ensures c.loop-k.invariant.1,
+      length-set c.loop-k.touched c.loop-k.k c.touched_by.result ∙ c.loop-k.invariant.0,
+      filled_more (λ (j : ℕ). mask (sum_at bs j) (sum_width bs)) c.loop-k.touched c.loop-k.k c.touched_by.result below c.touched_by.ensures c.loop-k.invariant.1,
     )
 
-pub invariant-of-result : goal.invariant-of-result
-invariant-of-result c = ((λ k l. c.loop-k.invariant.1 k (omega (arith, l, c.loop-k-test.false, c.sums-k-end.ensures.value))), tt)
+pub invariant_of-result : goal.invariant_of-result
+invariant_of-result c = ((λ k l. c.loop-k.invariant.1 k (omega (arith, l, c.loop-k-test.false, c.sums-k-end.ensures.value))), tt)
 
 pub returns : goal.returns
 returns c = record { shows = refl; support = λ k. support_law _ _; bounded = bound_law _ _ }

@@ -11,7 +11,7 @@ use Rattle.sums.proofs.problem.calls.SumsConstraints.revise.Goals as goal
 pub narrow-requires : goal.narrow-requires
 narrow-requires c = (
   omega (arith, c.if-k-count.false, c.count.ensures.value),
-  λ i l z. none_filled c.width-width.result c.args.node.now.words (sym c.if-has-empty.ensures) i (omega (arith, l, c.width-width.ensures.value)) z,
+  λ i l z. none_filled c.width-width.result c.args.node.now.words (sym c.if-has_empty.ensures) i (omega (arith, l, c.width-width.ensures.value)) z,
 )
 
 pub returns-then-k-count : goal.returns-then-k-count
@@ -21,23 +21,23 @@ returns-then-k-count c = record {
   differ = (none_yet (λ _ _. false) c.args.node.now.words).differ;
 }
 
-pub returns-then-has-empty : goal.returns-then-has-empty
-returns-then-has-empty c =
+pub returns-then-has_empty : goal.returns-then-has_empty
+returns-then-has_empty c =
     let bs = file_of c.args.self.now in
     let n = c.args.node.now.words in
     let P : ℕ → Type 0 = (λ w. Kept (λ _ _. false) n c.clear.new.node.words w c.clear.result) in
-    let e = empty_some (sum_width bs) n (ap (λ (w : ℕ). empty_below w n) (sym c.width-width.ensures.value) ∙ sym c.if-has-empty.ensures) in
+    let e = empty_some (sum_width bs) n (ap (λ (w : ℕ). empty_below w n) (sym c.width-width.ensures.value) ∙ sym c.if-has_empty.ensures) in
     record {
       revised = λ _. cleared (sum_at bs c.args.k) (sum_width bs) n c.clear.new.node.words c.clear.result e (subst P c.width-width.ensures.value c.clear.ensures);
       nothing = λ g. absurd (omega (arith, g, c.if-k-count.false, c.count.ensures.value));
       differ = c.clear.ensures.differ;
     }
 
-pub returns-else-has-empty : goal.returns-else-has-empty
-returns-else-has-empty c =
+pub returns-else-has_empty : goal.returns-else-has_empty
+returns-else-has_empty c =
     let bs = file_of c.args.self.now in
     let n = c.args.node.now.words in
-    let f = none_filled (sum_width bs) n (ap (λ (w : ℕ). empty_below w n) (sym c.width-width.ensures.value) ∙ sym c.if-has-empty.ensures) in
+    let f = none_filled (sum_width bs) n (ap (λ (w : ℕ). empty_below w n) (sym c.width-width.ensures.value) ∙ sym c.if-has_empty.ensures) in
     record {
       revised = λ _. narrowed (sum_at bs c.args.k) (sum_width bs) n c.narrow.new.node.words c.narrow.result f c.narrow.ensures;
       nothing = λ g. absurd (omega (arith, g, c.if-k-count.false, c.count.ensures.value));

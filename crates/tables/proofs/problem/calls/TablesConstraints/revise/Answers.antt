@@ -8,9 +8,9 @@ use Rattle.table_networks.specs.Files.{table_at}
 use Rattle.table_networks.proofs.Tabled.{revised, differ, differ_none}
 use Rattle.tables.proofs.problem.calls.TablesConstraints.revise.Goals as goal
 
-pub returns-in-default : goal.returns-in-default
-returns-in-default c = record {
-  revised = λ l. absurd (omega (arith, c.in-default.ensures.2));
+pub returns-in_default : goal.returns-in_default
+returns-in_default c = record {
+  revised = λ l. absurd (omega (arith, c.in_default.ensures.2));
   nothing = λ _. refl;
   differ = differ_none _;
 }

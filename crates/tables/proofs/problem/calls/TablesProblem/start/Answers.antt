@@ -14,7 +14,7 @@ loop-i-init c = none_filled _
 pub loop-i-preserved : goal.loop-i-preserved
 loop-i-preserved c =
     let l : c.loop-i.i < 32 = omega (arith, c.variables-i-end.ensures.high, c.loop-i-test.true) in
-    one_more _ _ _ _ l c.loop-i.invariant c.start-of.ensures c.start-of.type-inv
+    one_more _ _ _ _ l c.loop-i.invariant c.start_of.ensures c.start_of.type_inv
 
 pub returns : goal.returns
 returns c =
