@@ -1,7 +1,7 @@
 -- What the record that a reading looks at is known to hold.
-use Rattle.std.proofs.Common.{◌≡◌, ℕ, ◌+◌, ◌-◌, ◌*◌, ◌<◌, ◌≤◌, List, length, get_or, ℤ, sym, refl, ap, ◌∙◌, arith}
+use Rattle.std.proofs.Common.{◌≡◌, ℕ, ◌+◌, ◌*◌, ◌<◌, List, length, get_or, ap, ◌∙◌}
 use Rattle.records.specs.Words.{half, word, signed}
-use Rattle.records.specs.Checks.{line, sum_width, LawfulTable, LawfulSum}
+use Rattle.records.specs.Checks.{line, LawfulTable, LawfulSum}
 use Rattle.records.specs.Tables.{variable_count, table_count, start_word, stops, minutes, table_x, table_y, table_row, VariableLine, TableLine}
 use Rattle.records.specs.Sums.{sum_count, objective_at, coefficient_at, least_at, ObjectiveLine, SumLine}
 use Rattle.records.proofs.Facts.{start_some, x_below, y_below, ends_apart, objective_small, coefficient_small, least_moderate}

@@ -1,4 +1,4 @@
-use Rattle.std.proofs.Common.{◌≡◌, ℕ, zero, suc, ◌+◌, ◌-◌, ◌*◌, ◌/◌, ◌<◌, ◌≤◌, Bool, true, false, cond, ◌&&◌, eqb, List, [], ◌∷◌, length, get_or, take, drop, sym, refl, ◌∙◌, add-one, arith}
+use Rattle.std.proofs.Common.{◌≡◌, ℕ, ◌+◌, ◌*◌, ◌<◌, true, cond, ◌&&◌, eqb, List, length, get_or, drop, refl, add-one}
 use Rattle.std.proofs.lemmas.List.{at_drop_more}
 use Rattle.records.specs.Words.{signed}
 use Rattle.records.specs.Checks.{line, count, zeros, within, limited, variables, table_line_code, table_code, sum_line_code, sum_width, sum_code}

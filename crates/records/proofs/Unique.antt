@@ -1,6 +1,6 @@
-use Rattle.std.proofs.Common.{◌≡◌, ℕ, ◌<◌, ◌≤◌, cond, eqb, ◌⊎◌, List, sym, refl, ap, ◌∙◌, ap₂, inl, inr, arith}
+use Rattle.std.proofs.Common.{◌≡◌, ℕ, ◌<◌, cond, eqb, List, sym, refl, ap, ◌∙◌, ap₂, inl, inr, arith}
 use Rattle.std.proofs.lemmas.Bool.{cases_order}
-use Rattle.records.specs.Checks.{Lawful, Fault, Unwhole, Spoilt}
+use Rattle.records.specs.Checks.{Lawful, Fault, Spoilt}
 use Rattle.records.specs.Refusals.{number, Faulty}
 use Rattle.records.specs.declared.refusal.Cause.{Cause}
 use Rattle.records.specs.declared.refusal.Cause.TheVariants.{Length, Count, Kind, Zero, Number, Start, Limit, Absent}

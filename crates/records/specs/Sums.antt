@@ -1,4 +1,4 @@
-use Rattle.std.specs.Prelude.{◌≡◌, ℕ, ◌+◌, ◌-◌, ◌*◌, ◌<◌, List, ◌∷◌, length, get_or, replicate, ℤ, pos, negsuc, ◌≤ℤ◌}
+use Rattle.std.specs.Prelude.{◌≡◌, ℕ, ◌+◌, ◌-◌, ◌*◌, ◌<◌, List, ◌∷◌, length, replicate, ℤ, pos, negsuc, ◌≤ℤ◌}
 use Rattle.records.specs.Words.{signed}
 use Rattle.records.specs.Checks.{line, count}
 -- n of a sum file stands with the checks

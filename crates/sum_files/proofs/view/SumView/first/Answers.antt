@@ -1,4 +1,4 @@
-use Rattle.std.proofs.Common.{◌<◌, arith}
+use Rattle.std.proofs.Common.{◌<◌}
 use Rattle.records.specs.Checks.{count}
 use Rattle.records.proofs.Facts.{some_records}
 use Rattle.records.proofs.Readings.{objective_line}
@@ -7,4 +7,4 @@ use Rattle.sum_files.proofs.view.SumView.first.Goals as goal
 pub returns : goal.returns
 returns c =
     let l : 0 < count c.args.self.now.bytes.now = some_records _ c.args.self.now.ok.0 in
-    objective_line _ _ c.args.self.now.ok (c.line-at.ensures.part l) (c.line-at.ensures.size l)
+    objective_line _ _ c.args.self.now.ok (c.line_at.ensures.part l) (c.line_at.ensures.size l)

@@ -6,4 +6,4 @@ use Rattle.sum_files.proofs.view.SumView.sum.Goals as goal
 pub returns : goal.returns
 returns c =
     let l : c.args.k + 1 < count c.args.self.now.bytes.now = omega arith in
-    sum_line _ _ _ c.args.self.now.ok (omega arith) (c.line-at.ensures.part l) (c.line-at.ensures.size l)
+    sum_line _ _ _ c.args.self.now.ok (omega arith) (c.line_at.ensures.part l) (c.line_at.ensures.size l)

@@ -6,4 +6,4 @@ use Rattle.table_files.proofs.view.TableView.table.Goals as goal
 pub returns : goal.returns
 returns c =
     let l : c.args.self.now.variables + c.args.k < count c.args.self.now.bytes.now = omega arith in
-    table_line _ _ _ _ c.args.self.now.ok c.args.self.now.counted (omega arith) (c.line-at.ensures.part l) (c.line-at.ensures.size l)
+    table_line _ _ _ _ c.args.self.now.ok c.args.self.now.counted (omega arith) (c.line_at.ensures.part l) (c.line_at.ensures.size l)

@@ -6,4 +6,4 @@ use Rattle.table_files.proofs.view.TableView.variable.Goals as goal
 pub returns : goal.returns
 returns c =
     let l : c.args.i < count c.args.self.now.bytes.now = omega arith in
-    variable_line _ _ _ c.args.self.now.ok (omega arith) (c.line-at.ensures.part l) (c.line-at.ensures.size l)
+    variable_line _ _ _ c.args.self.now.ok (omega arith) (c.line_at.ensures.part l) (c.line_at.ensures.size l)
