@@ -1,11 +1,11 @@
-use Rattle.std.proofs.Common.{◌≡◌, ℕ, zero, suc, ◌^◌, ◌<◌, ◌≤◌, Bool, true, false, cond, ◌&&◌, ◌||◌, eqb, ltb, ◌⊎◌, List, length, get_or, set, sym, refl, ap, ◌∙◌, subst, inl, inr, arith}
+use Rattle.std.proofs.Common.{◌≡◌, ℕ, zero, suc, ◌^◌, ◌<◌, Bool, true, false, cond, ◌&&◌, eqb, ltb, List, length, get_or, set, sym, refl, ap, ◌∙◌, inl, inr, arith}
 use lib.Bits.{bit_or}
 use Rattle.std.proofs.lemmas.List.{get_or-set_same, get_or-set_other, length-set}
 use Rattle.std.proofs.lemmas.Bool.{cases_eq, both_ways, and_from, and_parts, or_cases, or_left, or_right, or_parts, eq-eqb, ne_eqb, lt-ltb, ltb-true, cond-true, cond-false}
-use Rattle.words.specs.Words.{bit, has, Inside, Change}
+use Rattle.words.specs.Words.{bit, has, Change}
 use Rattle.words.proofs.Bit.{bit_of_or, bit_zero, bit_pow_same, bit_pow_other}
 use Rattle.words.proofs.Inside.{same_bool, in_word}
-use Rattle.propagation.specs.Networks.{Assigns, Sane, Differ, Holds}
+use Rattle.propagation.specs.Networks.{Assigns, Sane, Differ}
 use Rattle.table_networks.specs.Tables.{Table, allows, Kept, some, table_supports, table_meets, tables_network}
 
 some_parts : (q : ℕ → Bool) (k : ℕ) → some q k ≡ true → (b : ℕ) × (b < k) × (q b ≡ true)

@@ -1,4 +1,4 @@
-use Rattle.std.specs.Prelude.{◌≡◌, ℕ, zero, suc, ◌^◌, ◌<◌, Bool, true, false, cond, ◌&&◌, ◌||◌, List, ◌==◌, bit_or, nat_lt, slice_index}
+use Rattle.std.specs.Prelude.{◌≡◌, ℕ, zero, suc, ◌^◌, Bool, true, false, cond, ◌&&◌, ◌||◌, List, ◌==◌, bit_or, nat_lt, slice_index}
 use Rattle.words.specs.Words.{bit, has}
 use Rattle.propagation.specs.Networks.{Network}
 

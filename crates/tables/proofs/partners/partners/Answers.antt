@@ -1,4 +1,4 @@
-use Rattle.std.proofs.Common.{◌≡◌, ℕ, ap}
+use Rattle.std.proofs.Common.{ℕ, ap}
 use lib.Bits.{bit_and}
 use Rattle.table_files.specs.Meaning.{bytes_of}
 use Rattle.records.specs.Tables.{table_row}

@@ -1,4 +1,4 @@
-use Rattle.std.proofs.Common.{◌≡◌, ℕ, ◌^◌, ◌<◌, ap, ◌∙◌, arith}
+use Rattle.std.proofs.Common.{ℕ, ◌^◌, ◌<◌, ap, ◌∙◌, arith}
 use lib.Bits.{bit_or}
 use Rattle.table_files.specs.Meaning.{bytes_of}
 use Rattle.records.specs.Tables.{table_x}

@@ -1,11 +1,10 @@
-use Rattle.std.proofs.Common.{◌≡◌, ℕ, ◌<◌, List, sym, ◌∙◌, subst, arith}
+use Rattle.std.proofs.Common.{◌≡◌, ℕ, ◌<◌, List, subst, arith}
 use Rattle.words.specs.Words.{Proper}
 use Rattle.table_files.specs.Meaning.{bytes_of}
 use Rattle.records.specs.Tables.{variable_count}
-use Rattle.table_networks.specs.Files.{start_of}
 use Rattle.table_networks.proofs.Files.{network_sane}
 use Rattle.table_networks.proofs.Prices.{priced}
-use Rattle.table_networks.proofs.Starts.{FilledTo, none_filled, one_more, all_filled, is_proper}
+use Rattle.table_networks.proofs.Starts.{none_filled, one_more, all_filled, is_proper}
 use Rattle.tables.proofs.problem.calls.TablesProblem.start.Goals as goal
 
 pub loop-i-init : goal.loop-i-init
