@@ -1,4 +1,4 @@
-use Rattle.std.proofs.Common.{◌≡◌, ℕ, zero, suc, ◌+◌, ◌^◌, ◌<◌, true, false, ◌⊎◌, List, [], ◌∷◌, ◌++◌, decimal, sym, refl, ap, ◌∙◌, inl, inr, append_assoc, append-nil, add-one, arith}
+use Rattle.std.proofs.Common.{◌≡◌, ℕ, zero, suc, ◌+◌, ◌^◌, ◌<◌, List, ◌∷◌, ◌++◌, decimal, sym, refl, ◌∙◌, append_assoc, append-nil, add-one, arith}
 use lib.Count.{count_trailing_zeros}
 use Rattle.words.specs.Words.{Lowest}
 use Rattle.words.proofs.Bit.{is_lowest}

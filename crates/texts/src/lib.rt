@@ -8,7 +8,6 @@ use answers::{Price, Sort, Survey};
 use nodes::node::Node;
 use records::Refusal;
 use std::alloc::{AllocError, Global};
-use std::fmt;
 use trees::Status;
 use words::lowest;
 
@@ -17,18 +16,15 @@ pub fn answer_text(heap: Global, answer: &Result<Survey, Refusal>) -> Result<Str
     ensures { IfOk result (λ s. string_bytes s ≡ text_of answer.now) }
 {
     let mut text = String::new(heap);
-    let put = match answer {
-        Ok(survey) => put_survey(&mut text, survey),
-        Err(refusal) => put_refusal(&mut text, refusal),
-    };
-    match put {
-        Ok(()) => Ok(text),
-        Err(_) => Err(AllocError),
+    match answer {
+        Ok(survey) => put_survey(&mut text, survey)?,
+        Err(refusal) => put_refusal(&mut text, refusal)?,
     }
+    Ok(text)
 }
 
 /// Adds the line of a refusal.
-fn put_refusal(text: &mut String, refusal: &Refusal) -> fmt::Result
+fn put_refusal(text: &mut String, refusal: &Refusal) -> Result<(), AllocError>
     ensures { OnOk result (string_bytes text.new ≡ string_bytes text.old ++ refusal_text refusal.now) }
 {
     let number = refusal.number();
@@ -37,7 +33,7 @@ fn put_refusal(text: &mut String, refusal: &Refusal) -> fmt::Result
 }
 
 /// Adds the lines of a survey.
-fn put_survey(text: &mut String, survey: &Survey) -> fmt::Result
+fn put_survey(text: &mut String, survey: &Survey) -> Result<(), AllocError>
     ensures { OnOk result (string_bytes text.new ≡ string_bytes text.old ++ survey_text survey.now) }
 {
     put_head(text, survey)?;
@@ -47,7 +43,7 @@ fn put_survey(text: &mut String, survey: &Survey) -> fmt::Result
 }
 
 /// Adds the line of the sort and the counts.
-fn put_head(text: &mut String, survey: &Survey) -> fmt::Result
+fn put_head(text: &mut String, survey: &Survey) -> Result<(), AllocError>
     ensures { OnOk result (string_bytes text.new ≡ string_bytes text.old ++ head_text survey.now.sort survey.now.variables survey.now.constraints) }
 {
     let variables = survey.variables;
@@ -59,7 +55,7 @@ fn put_head(text: &mut String, survey: &Survey) -> fmt::Result
 }
 
 /// Adds the line of the root.
-fn put_root(text: &mut String, survey: &Survey) -> fmt::Result
+fn put_root(text: &mut String, survey: &Survey) -> Result<(), AllocError>
     ensures { OnOk result (string_bytes text.new ≡ string_bytes text.old ++ root_text survey.now.root.words survey.now.variables) }
 {
     write!(text, "root")?;
@@ -75,7 +71,7 @@ fn listed_count(variables: usize) -> usize
 }
 
 /// Adds the words of the variables, a blank before each.
-fn put_words(text: &mut String, node: &Node, variables: usize) -> fmt::Result
+fn put_words(text: &mut String, node: &Node, variables: usize) -> Result<(), AllocError>
     ensures { OnOk result (string_bytes text.new ≡ string_bytes text.old ++ words_text node.now.words variables) }
 {
     for i in 0..listed_count(variables) {
@@ -86,7 +82,7 @@ fn put_words(text: &mut String, node: &Node, variables: usize) -> fmt::Result
 }
 
 /// Adds the lowest value of each variable, a blank before each.
-fn put_values(text: &mut String, node: &Node, variables: usize) -> fmt::Result
+fn put_values(text: &mut String, node: &Node, variables: usize) -> Result<(), AllocError>
     ensures { OnOk result (string_bytes text.new ≡ string_bytes text.old ++ values_text node.now.words variables) }
 {
     for i in 0..listed_count(variables) {
@@ -97,7 +93,7 @@ fn put_values(text: &mut String, node: &Node, variables: usize) -> fmt::Result
 }
 
 /// Adds the line of the status.
-fn put_status(text: &mut String, survey: &Survey) -> fmt::Result
+fn put_status(text: &mut String, survey: &Survey) -> Result<(), AllocError>
     ensures { OnOk result (string_bytes text.new ≡ string_bytes text.old ++ status_text survey.now.root.words survey.now.variables survey.now.status) }
 {
     match survey.status {
@@ -115,7 +111,7 @@ fn put_status(text: &mut String, survey: &Survey) -> fmt::Result
 }
 
 /// Adds the line of the bound, where there is one.
-fn put_bound(text: &mut String, bound: Option<Price>) -> fmt::Result
+fn put_bound(text: &mut String, bound: Option<Price>) -> Result<(), AllocError>
     ensures { OnOk result (string_bytes text.new ≡ string_bytes text.old ++ bound_text bound) }
 {
     match bound {
@@ -125,7 +121,7 @@ fn put_bound(text: &mut String, bound: Option<Price>) -> fmt::Result
 }
 
 /// Adds the line of a bound.
-fn put_price(text: &mut String, price: Price) -> fmt::Result
+fn put_price(text: &mut String, price: Price) -> Result<(), AllocError>
     ensures { OnOk result (string_bytes text.new ≡ string_bytes text.old ++ price_text price) }
 {
     match price {

@@ -1,4 +1,4 @@
-use Rattle.std.proofs.Common.{refl, rules}
+use Rattle.std.proofs.Common.{refl}
 use Rattle.texts.proofs.Lines.{listed_none, listed_more}
 use Rattle.texts.proofs.put_words.Goals as goal
 
