@@ -1,4 +1,4 @@
-use Rattle.std.proofs.Common.{◌≡◌, ℕ, zero, suc, ◌+◌, ◌^◌, ◌<◌, ◌≤◌, Bool, true, false, cond, not, ◌&&◌, ◌||◌, eqb, ltb, ◌⊎◌, List, [], ◌∷◌, length, get_or, set, replicate, ℤ, pos, negsuc, ◌+ℤ◌, ◌-ℤ◌, ◌*ℤ◌, ◌≤ℤ◌, sym, refl, ap, ◌∙◌, subst, inl, inr, add-zero, add-one, arith, w64, to_z, of_z}
+use Rattle.std.proofs.Common.{◌≡◌, ℕ, zero, suc, ◌+◌, ◌^◌, ◌<◌, ◌≤◌, Bool, true, false, cond, ◌&&◌, ltb, List, length, get_or, set, replicate, ℤ, pos, negsuc, ◌+ℤ◌, ◌-ℤ◌, ◌*ℤ◌, ◌≤ℤ◌, sym, refl, ap, ◌∙◌, subst, inl, inr, add-zero, add-one, arith, w64, to_z, of_z}
 use lib.Signed.{le_z}
 use lib.Bits.{bit_or}
 use Rattle.std.proofs.lemmas.List.{get_or-set_same, get_or-set_other, length-set, ext_get_or}
@@ -10,10 +10,9 @@ use Rattle.words.specs.Words.{bit, has, Change, Proper}
 use Rattle.nodes.specs.Choosing.{Filled, Empty}
 use Rattle.words.proofs.Bit.{bit_of_or, bit_zero}
 use Rattle.words.proofs.Inside.{same_bool}
-use Rattle.propagation.specs.Networks.{Differ, Revised}
 use Rattle.propagation.specs.Closing.{words, those}
 use Rattle.records.specs.Sums.{sum_width, Moderate}
-use Rattle.sum_networks.specs.Sums.{Sum, largest, smallest_product, totals, least_total, rest, others, sum_supports, summed, counts, mask}
+use Rattle.sum_networks.specs.Sums.{Sum, largest, smallest_product, totals, least_total, rest, sum_supports, summed, counts, mask}
 use Rattle.sum_networks.specs.Files.{start_of}
 use Rattle.sum_networks.specs.Steps.{Kept, Reaching, reaches}
 use Rattle.sum_networks.proofs.Ends.{le_z_true, le_le_z}

@@ -1,12 +1,12 @@
-use Rattle.std.proofs.Common.{◌≡◌, ℕ, zero, suc, ◌+◌, ◌-◌, ◌*◌, ◌/◌, ◌%◌, ◌^◌, ◌<◌, ◌≤◌, Bool, true, false, cond, not, ◌&&◌, ◌⊎◌, ℤ, pos, negsuc, ◌+ℤ◌, ◌*ℤ◌, ◌≤ℤ◌, ◌<ℤ◌, sym, refl, ap, ◌∙◌, subst, inl, inr, mul-le-mul_left, pow-suc, arith, pow_pos}
-use lib.Count.{count_trailing_zeros, count_leading_zeros, leading_top}
+use Rattle.std.proofs.Common.{◌≡◌, ℕ, zero, suc, ◌*◌, ◌/◌, ◌%◌, ◌^◌, ◌<◌, ◌≤◌, Bool, true, false, cond, not, ℤ, pos, negsuc, ◌*ℤ◌, ◌≤ℤ◌, ◌<ℤ◌, sym, refl, ap, ◌∙◌, subst, inl, inr, mul-le-mul_left, pow-suc, arith, pow_pos}
+use lib.Count.{leading_top}
 use lib.Signed.{le_z, lt_z}
 use Rattle.std.proofs.lemmas.Nat.{le-div, div_below}
 use Rattle.std.proofs.lemmas.Int.{ints}
 use Rattle.std.proofs.lemmas.Bool.{cases_lt, cases_eq, both_ways}
 use Rattle.words.specs.Words.{bit}
 use Rattle.words.proofs.Bit.{trailing_bit, trailing_least, bit_past, bit_pow_same, bit_pow_other, bit_zero, some_bit}
-use Rattle.sum_networks.specs.Sums.{Most, Least, largest, smallest_product, lowest_value, highest_value, product_at}
+use Rattle.sum_networks.specs.Sums.{Most, Least, largest, smallest_product, lowest_value, highest_value}
 
 pow_above : (n : ℕ) → n < 2 ^ n
 pow_above zero = omega arith

@@ -1,17 +1,16 @@
-use Rattle.std.proofs.Common.{◌≡◌, ℕ, zero, suc, ◌^◌, ◌<◌, ◌≤◌, Bool, true, false, cond, not, ◌&&◌, eqb, ltb, ◌⊎◌, List, get_or, ℤ, pos, negsuc, ◌+ℤ◌, ◌*ℤ◌, ◌≤ℤ◌, sym, refl, ap, ◌∙◌, subst, inl, inr, arith}
+use Rattle.std.proofs.Common.{◌≡◌, ℕ, zero, suc, ◌<◌, ◌≤◌, true, false, ◌&&◌, ltb, List, get_or, ℤ, pos, negsuc, ◌+ℤ◌, ◌*ℤ◌, ◌≤ℤ◌, sym, refl, ap, ◌∙◌, inl, inr, arith}
 use lib.Signed.{le_z, lt_z}
 use Rattle.std.proofs.lemmas.Int.{ints}
-use Rattle.std.proofs.lemmas.Bool.{cases_lt, cases_eq, cases_Bool, both_ways, and_from, and_parts, lt-ltb, le-ltb, cond-true, cond-false}
+use Rattle.std.proofs.lemmas.Bool.{cases_lt, cases_Bool, both_ways, and_from, and_parts, lt-ltb, le-ltb, cond-true, cond-false}
 use Rattle.trees.specs.Trees.{StrictOrder}
-use Rattle.words.specs.Words.{bit, has, Inside, Fit, Proper}
+use Rattle.words.specs.Words.{bit, has, Inside}
 use Rattle.nodes.specs.Choosing.{Filled}
 use Rattle.words.proofs.Bit.{bit_pow_same}
-use Rattle.propagation.specs.Networks.{Network, Holds, Assigns, Sane}
-use Rattle.propagation.specs.Closing.{those}
+use Rattle.propagation.specs.Networks.{Assigns, Sane}
 use Rattle.propagation.proofs.Closures.{those_has}
 use Rattle.problems.specs.Problems.{Priced}
-use Rattle.sum_networks.specs.Sums.{Sum, Most, Least, SupportedBy, SupportLaw, BoundLaw, summed, summed_but, largest, smallest_product, totals, rest, others, sum_supports, counts, mask, total_of, sums_network, least_total}
-use Rattle.sum_networks.proofs.Ends.{lt_z_true, lt_z_false, le_z_true, le_le_z, largest_is, smallest_is, most_le, least_le, most_unique, filled_up, pow_only, pow_filled, largest_pow, smallest_pow, largest_none}
+use Rattle.sum_networks.specs.Sums.{Sum, SupportLaw, BoundLaw, summed, summed_but, largest, smallest_product, totals, rest, others, sum_supports, counts, mask, total_of, sums_network, least_total}
+use Rattle.sum_networks.proofs.Ends.{lt_z_false, le_z_true, le_le_z, largest_is, smallest_is, most_le, least_le, filled_up, pow_only, pow_filled, largest_pow, smallest_pow, largest_none}
 use Rattle.sum_networks.proofs.Summing.{summed_same, summed_le, but_le, rest_is, others_from, others_parts}
 
 le_trans : (a b c : ℤ) → a ≤ℤ b → b ≤ℤ c → a ≤ℤ c

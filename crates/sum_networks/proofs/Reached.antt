@@ -1,13 +1,13 @@
-use Rattle.std.proofs.Common.{◌≡◌, ℕ, zero, suc, ◌+◌, ◌-◌, ◌*◌, ◌^◌, ◌<◌, ◌≤◌, Bool, true, false, cond, not, ◌&&◌, ◌⊎◌, ℤ, pos, negsuc, ◌+ℤ◌, ◌-ℤ◌, ◌*ℤ◌, ◌≤ℤ◌, ◌<ℤ◌, sym, refl, ap, ◌∙◌, subst, inl, inr, arith, w64, SFits, to_z, of_z}
+use Rattle.std.proofs.Common.{◌≡◌, ℕ, suc, ◌*◌, ◌<◌, ◌≤◌, Bool, true, false, cond, not, ◌&&◌, ◌⊎◌, ℤ, pos, negsuc, ◌*ℤ◌, ◌≤ℤ◌, ◌<ℤ◌, sym, ap, ◌∙◌, subst, inl, inr, arith, w64, SFits, to_z, of_z}
 use lib.Signed.{le_z, lt_z}
 use Rattle.std.proofs.lemmas.Nat.{mul-le}
 use Rattle.std.proofs.lemmas.Int.{ints, to_z-of_z}
 use Rattle.std.proofs.lemmas.Bool.{cases_eq, cases_Bool, both_ways, and_from, and_parts}
-use Rattle.words.specs.Words.{bit, Lowest, Without}
+use Rattle.words.specs.Words.{bit, Without}
 use Rattle.words.proofs.Bit.{bit_zero}
 use Rattle.words.proofs.Inside.{same_bool}
 use Rattle.records.specs.Sums.{Small}
-use Rattle.sum_networks.specs.Sums.{Least, smallest_product, product_at, lowest_value, highest_value}
+use Rattle.sum_networks.specs.Sums.{smallest_product, product_at, lowest_value, highest_value}
 use Rattle.sum_networks.specs.Steps.{Reaching}
 use Rattle.sum_networks.proofs.Ends.{le_z_true, le_le_z, lt_z_true, lt_z_false, smallest_is}
 

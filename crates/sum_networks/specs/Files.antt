@@ -1,4 +1,4 @@
-use Rattle.std.specs.Prelude.{◌≡◌, ℕ, ◌<◌, Bool, cond, List, ℤ, nat_lt, slice_index}
+use Rattle.std.specs.Prelude.{◌≡◌, ℕ, ◌<◌, cond, List, ℤ, nat_lt, slice_index}
 use Rattle.propagation.specs.Networks.{Network}
 use Rattle.propagation.specs.Closing.{words}
 use Rattle.records.specs.Sums.{sum_width, sum_count, objective_at, coefficient_at, least_at}

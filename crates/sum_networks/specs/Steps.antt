@@ -1,4 +1,4 @@
-use Rattle.std.specs.Prelude.{◌≡◌, ℕ, ◌<◌, ◌≤◌, Bool, true, false, ◌&&◌, List, ℤ, pos, ◌+ℤ◌, ◌*ℤ◌, int_le, slice_index}
+use Rattle.std.specs.Prelude.{◌≡◌, ℕ, ◌<◌, ◌≤◌, Bool, ◌&&◌, List, ℤ, pos, ◌+ℤ◌, ◌*ℤ◌, int_le, slice_index}
 use Rattle.words.specs.Words.{bit, has}
 use Rattle.propagation.specs.Networks.{Differ}
 use Rattle.sum_networks.specs.Sums.{Sum, rest}

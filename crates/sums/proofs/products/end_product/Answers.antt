@@ -1,4 +1,4 @@
-use Rattle.std.proofs.Common.{◌≡◌, true, false, refl, arith, w32, w64, SFits}
+use Rattle.std.proofs.Common.{true, false, arith, w32, w64, SFits}
 use Rattle.std.proofs.lemmas.Int.{to_z-of_z, ints}
 use Rattle.sum_networks.proofs.Ends.{low_is, high_is}
 use Rattle.sum_networks.proofs.Reached.{at_end}

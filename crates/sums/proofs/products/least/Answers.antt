@@ -1,4 +1,4 @@
-use Rattle.std.proofs.Common.{◌≡◌, not, ℤ, pos, ap, arith, w32, w64, SFits}
+use Rattle.std.proofs.Common.{not, pos, arith, w32, w64, SFits}
 use lib.Signed.{lt_z}
 use Rattle.std.proofs.lemmas.Int.{to_z-of_z, ints}
 use Rattle.sum_networks.specs.Sums.{smallest_product}

@@ -1,5 +1,5 @@
-use Rattle.std.proofs.Common.{◌≡◌, ◌<◌, get_or, ℤ, ◌+ℤ◌, ◌-ℤ◌, ap, ◌∙◌, subst, arith, w32, w64, SFits, to_z, of_z}
-use Rattle.std.proofs.lemmas.Int.{to_z-of_z, ints}
+use Rattle.std.proofs.Common.{◌≡◌, ◌<◌, get_or, ℤ, ◌+ℤ◌, ◌-ℤ◌, ap, ◌∙◌, subst, arith, w32, w64, to_z, of_z}
+use Rattle.std.proofs.lemmas.Int.{to_z-of_z}
 use Rattle.sum_files.specs.Meaning.{sum_bytes_of}
 use Rattle.records.specs.Sums.{sum_width}
 use Rattle.sum_networks.specs.Sums.{largest, totals}

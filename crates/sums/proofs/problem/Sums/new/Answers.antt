@@ -1,4 +1,4 @@
-use Rattle.std.proofs.Common.{◌≡◌, ℕ, ◌<◌, length, refl, ◌∙◌, arith}
+use Rattle.std.proofs.Common.{ℕ, ◌<◌, length, refl, ◌∙◌, arith}
 use Rattle.std.proofs.lemmas.List.{length-set}
 use Rattle.sum_files.specs.Meaning.{sum_bytes_of}
 use Rattle.records.specs.Sums.{sum_width}
@@ -20,7 +20,7 @@ loop-k-preserved c =
     )
 
 pub invariant_of-result : goal.invariant_of-result
-invariant_of-result c = ((λ k l. c.loop-k.invariant.1 k (omega (arith, l, c.loop-k-test.false, c.sums-k-end.ensures.value))), tt)
+invariant_of-result c = record { ok = λ k l. c.loop-k.invariant.1 k (omega (arith, l, c.loop-k-test.false, c.sums-k-end.ensures.value)) }
 
 pub returns : goal.returns
 returns c = record { shows = refl; support = λ k. support_law _ _; bounded = bound_law _ _ }

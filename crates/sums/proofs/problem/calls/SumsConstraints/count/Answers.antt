@@ -1,4 +1,3 @@
-use Rattle.std.proofs.Common.{refl}
 use Rattle.records.proofs.Facts.{width_some}
 use Rattle.sum_networks.proofs.Keeping.{sums_sane}
 use Rattle.sums.proofs.problem.calls.SumsConstraints.count.Goals as goal

@@ -1,8 +1,8 @@
-use Rattle.std.proofs.Common.{◌≡◌, ℕ, Bool, false, sym, refl, ap, ◌∙◌, subst, arith}
+use Rattle.std.proofs.Common.{ℕ, false, sym, refl, ap, ◌∙◌, subst, arith}
 use Rattle.nodes.specs.Choosing.{empty_below}
 use Rattle.nodes.proofs.Emptiness.{none_filled, empty_some}
 use Rattle.records.specs.Sums.{sum_width}
-use Rattle.sum_networks.specs.Steps.{Kept, reaches}
+use Rattle.sum_networks.specs.Steps.{Kept}
 use Rattle.sum_networks.specs.Files.{sum_at}
 use Rattle.sums.specs.Meaning.{file_of}
 use Rattle.sum_networks.proofs.Cutting.{none_yet, narrowed, cleared}

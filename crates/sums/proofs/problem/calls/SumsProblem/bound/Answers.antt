@@ -1,4 +1,4 @@
-use Rattle.std.proofs.Common.{◌≡◌, ℕ, true, false, cond, Some, None, sym, refl, ap, ◌∙◌, arith, w64}
+use Rattle.std.proofs.Common.{ℕ, Some, None, sym, ap, ◌∙◌, arith, w64}
 use Rattle.std.proofs.lemmas.Int.{to_z-of_z}
 use Rattle.std.proofs.lemmas.Bool.{cond-true, cond-false}
 use Rattle.nodes.specs.Choosing.{empty_below}
