@@ -1,5 +1,5 @@
-mod Conds
-mod Stepping
-mod Marking
-mod Turning
-mod Pruning
+pub mod Conds
+pub mod Stepping
+pub mod Marking
+pub mod Turning
+pub mod Pruning

@@ -30,8 +30,8 @@ pub struct Recomputing<S: Space> {
 impl<S: Space> Recomputing<S> {
     /// A layer over a space, which is reset. A gap of 0 counts as 1, and one above 32 as 32.
     pub fn new(below: S, gap: u8) -> Recomputing<S>
-        ensures means { sound below → (meaning_over meaning result ≡ made_over (meaning below) 32) × sound_over sound meaning result }
-        ensures spends { (meaning_over meaning result).allowance ≤ (meaning below).allowance }
+        ensures means { S.sound below → (meaning_over S.meaning result ≡ made_over (S.meaning below) 32) × sound_over S.sound S.meaning result }
+        ensures spends { (meaning_over S.meaning result).allowance ≤ (S.meaning below).allowance }
         ensures gap { line result.trace ≡ blank (gap_within gap) }
     {
         let mut below = below;
@@ -44,8 +44,8 @@ impl<S: Space> Recomputing<S> {
 
     // Marks the current node, the newest held, in the space below if that is not full.
     fn checkpoint(&mut self)
-        ensures means { sound_over sound meaning self.old → length (line self.old.trace).path ≤ top (line self.old.trace).depths → (meaning_over meaning self.new ≡ meaning_over meaning self.old) × sound_over sound meaning self.new × (line self.new.trace ≡ checked_below (meaning self.old.below) (line self.old.trace)) }
-        ensures spends { (meaning_over meaning self.new).allowance ≤ (meaning_over meaning self.old).allowance }
+        ensures means { sound_over S.sound S.meaning self.old → length (line self.old.trace).path ≤ top (line self.old.trace).depths → (meaning_over S.meaning self.new ≡ meaning_over S.meaning self.old) × sound_over S.sound S.meaning self.new × (line self.new.trace ≡ checked_below (S.meaning self.old.below) (line self.old.trace)) }
+        ensures spends { (meaning_over S.meaning self.new).allowance ≤ (meaning_over S.meaning self.old).allowance }
     {
         match self.below.mark() {
             Ok(()) => self.trace.check(),
@@ -55,8 +55,8 @@ impl<S: Space> Recomputing<S> {
 
     // Drops the checkpoints that are deeper than the newest held node.
     fn prune(&mut self)
-        ensures means { sound self.old.below → Loose (meaning self.old.below) (line self.old.trace) → (meaning_over meaning self.new ≡ meaning_over meaning self.old) × sound_over sound meaning self.new × (line self.new.trace ≡ pruned_line (line self.old.trace)) }
-        ensures spends { (meaning_over meaning self.new).allowance ≤ (meaning_over meaning self.old).allowance }
+        ensures means { S.sound self.old.below → Loose (S.meaning self.old.below) (line self.old.trace) → (meaning_over S.meaning self.new ≡ meaning_over S.meaning self.old) × sound_over S.sound S.meaning self.new × (line self.new.trace ≡ pruned_line (line self.old.trace)) }
+        ensures spends { (meaning_over S.meaning self.new).allowance ≤ (meaning_over S.meaning self.old).allowance }
     {
         while self.trace.stale() {
             let _ = self.below.forget();
@@ -67,8 +67,8 @@ impl<S: Space> Recomputing<S> {
 
 // Goes to the newest held node, or to the root if none is held.
 fn go_back<S: Space>(below: &mut S)
-    ensures means { sound below.old → (meaning below.new ≡ gone_back (meaning below.old)) × sound below.new }
-    ensures spends { (meaning below.new).allowance ≤ (meaning below.old).allowance }
+    ensures means { S.sound below.old → (S.meaning below.new ≡ gone_back (S.meaning below.old)) × S.sound below.new }
+    ensures spends { (S.meaning below.new).allowance ≤ (S.meaning below.old).allowance }
 {
     match below.restore() {
         Ok(()) => (),
@@ -78,8 +78,8 @@ fn go_back<S: Space>(below: &mut S)
 
 // Redoes the path from one depth to another.
 fn redo_path<S: Space>(below: &mut S, trace: &Trace, from: u16, to: u16)
-    ensures means { sound below.old → Redoable (meaning below.old) (line trace.now).path from to → (meaning below.new ≡ at_depth (meaning below.old) (line trace.now).path to) × sound below.new }
-    ensures spends { (meaning below.new).allowance ≤ (meaning below.old).allowance }
+    ensures means { S.sound below.old → Redoable (S.meaning below.old) (line trace.now).path from to → (S.meaning below.new ≡ at_depth (S.meaning below.old) (line trace.now).path to) × S.sound below.new }
+    ensures spends { (S.meaning below.new).allowance ≤ (S.meaning below.old).allowance }
 {
     let mut k = from;
     while k < to {
@@ -146,9 +146,9 @@ impl<S: Space> Space for Recomputing<S> {
 
     /// A step below that is done is noted on the path.
     fn commit(&mut self, alternative: u8) -> Result<(), Refusal>
-        ensures means { sound_over sound meaning self.old → Commits (meaning_over meaning self.old) alternative result (meaning_over meaning self.new) × sound_over sound meaning self.new }
-        ensures spends { Spends (meaning_over meaning self.old) result (meaning_over meaning self.new) }
-        ensures notes { sound_over sound meaning self.old → line self.new.trace ≡ stepped_line (line self.old.trace) alternative result }
+        ensures means { sound_over S.sound S.meaning self.old → Commits (meaning_over S.meaning self.old) alternative result (meaning_over S.meaning self.new) × sound_over S.sound S.meaning self.new }
+        ensures spends { Spends (meaning_over S.meaning self.old) result (meaning_over S.meaning self.new) }
+        ensures notes { sound_over S.sound S.meaning self.old → line self.new.trace ≡ stepped_line (line self.old.trace) alternative result }
     {
         match self.below.commit(alternative) {
             Ok(()) => {
@@ -161,9 +161,9 @@ impl<S: Space> Space for Recomputing<S> {
 
     /// A step below that is done is noted on the path.
     fn redo(&mut self, alternative: u8) -> Result<(), Refusal>
-        ensures means { sound_over sound meaning self.old → Redoes (meaning_over meaning self.old) alternative result (meaning_over meaning self.new) × sound_over sound meaning self.new }
-        ensures spends { (meaning_over meaning self.new).allowance ≤ (meaning_over meaning self.old).allowance }
-        ensures notes { sound_over sound meaning self.old → line self.new.trace ≡ stepped_line (line self.old.trace) alternative result }
+        ensures means { sound_over S.sound S.meaning self.old → Redoes (meaning_over S.meaning self.old) alternative result (meaning_over S.meaning self.new) × sound_over S.sound S.meaning self.new }
+        ensures spends { (meaning_over S.meaning self.new).allowance ≤ (meaning_over S.meaning self.old).allowance }
+        ensures notes { sound_over S.sound S.meaning self.old → line self.new.trace ≡ stepped_line (line self.old.trace) alternative result }
     {
         match self.below.redo(alternative) {
             Ok(()) => {
@@ -176,9 +176,9 @@ impl<S: Space> Space for Recomputing<S> {
 
     /// Holds this depth, with a checkpoint below when the count of held nodes is a multiple of the gap.
     fn mark(&mut self) -> Result<(), Refusal>
-        ensures means { sound_over sound meaning self.old → Marks (meaning_over meaning self.old) result (meaning_over meaning self.new) × sound_over sound meaning self.new }
-        ensures spends { (meaning_over meaning self.new).allowance ≤ (meaning_over meaning self.old).allowance }
-        ensures places { sound_over sound meaning self.old → line self.new.trace ≡ marked_line (meaning self.old.below) (line self.old.trace) }
+        ensures means { sound_over S.sound S.meaning self.old → Marks (meaning_over S.meaning self.old) result (meaning_over S.meaning self.new) × sound_over S.sound S.meaning self.new }
+        ensures spends { (meaning_over S.meaning self.new).allowance ≤ (meaning_over S.meaning self.old).allowance }
+        ensures places { sound_over S.sound S.meaning self.old → line self.new.trace ≡ marked_line (S.meaning self.old.below) (line self.old.trace) }
     {
         let full = self.trace.held() >= 32;
         if full {
@@ -194,8 +194,8 @@ impl<S: Space> Space for Recomputing<S> {
 
     /// Goes to the deepest checkpoint, or to the root, and redoes the path from there to the newest held depth.
     fn restore(&mut self) -> Result<(), Refusal>
-        ensures means { sound_over sound meaning self.old → Restores (meaning_over meaning self.old) result (meaning_over meaning self.new) × sound_over sound meaning self.new }
-        ensures spends { (meaning_over meaning self.new).allowance ≤ (meaning_over meaning self.old).allowance }
+        ensures means { sound_over S.sound S.meaning self.old → Restores (meaning_over S.meaning self.old) result (meaning_over S.meaning self.new) × sound_over S.sound S.meaning self.new }
+        ensures spends { (meaning_over S.meaning self.new).allowance ≤ (meaning_over S.meaning self.old).allowance }
         ensures cuts { line self.new.trace ≡ restored_line (line self.old.trace) }
     {
         if self.trace.held() == 0 {
@@ -211,9 +211,9 @@ impl<S: Space> Space for Recomputing<S> {
 
     /// Takes the newest depth off, and every checkpoint that is deeper than the next.
     fn forget(&mut self) -> Result<(), Refusal>
-        ensures means { sound_over sound meaning self.old → Forgets (meaning_over meaning self.old) result (meaning_over meaning self.new) × sound_over sound meaning self.new }
-        ensures spends { (meaning_over meaning self.new).allowance ≤ (meaning_over meaning self.old).allowance }
-        ensures drops { sound_over sound meaning self.old → line self.new.trace ≡ forgotten_line (line self.old.trace) }
+        ensures means { sound_over S.sound S.meaning self.old → Forgets (meaning_over S.meaning self.old) result (meaning_over S.meaning self.new) × sound_over S.sound S.meaning self.new }
+        ensures spends { (meaning_over S.meaning self.new).allowance ≤ (meaning_over S.meaning self.old).allowance }
+        ensures drops { sound_over S.sound S.meaning self.old → line self.new.trace ≡ forgotten_line (line self.old.trace) }
     {
         if self.trace.held() == 0 {
             return Err(Refusal::NothingHeld);
@@ -225,8 +225,8 @@ impl<S: Space> Space for Recomputing<S> {
 
     /// Resets the space below, and empties the path, the depths and the checkpoints.
     fn reset(&mut self)
-        ensures means { sound_over sound meaning self.old → (meaning_over meaning self.new ≡ fresh (meaning_over meaning self.old)) × sound_over sound meaning self.new }
-        ensures spends { (meaning_over meaning self.new).allowance ≤ (meaning_over meaning self.old).allowance }
+        ensures means { sound_over S.sound S.meaning self.old → (meaning_over S.meaning self.new ≡ fresh (meaning_over S.meaning self.old)) × sound_over S.sound S.meaning self.new }
+        ensures spends { (meaning_over S.meaning self.new).allowance ≤ (meaning_over S.meaning self.old).allowance }
         ensures clears { line self.new.trace ≡ blank (line self.old.trace).gap }
     {
         self.below.reset();

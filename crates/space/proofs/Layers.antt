@@ -1,6 +1,6 @@
-use Rattle.std.proofs.Common.{◌≡◌, ℕ, ◌+◌, ◌<◌, ◌≤◌, min, Bool, true, false, cond, List, [], ◌∷◌, length, refl}
+use Rattle.std.proofs.Common.{◌≡◌, ℕ, ◌+◌, ◌≤◌, Bool, true, false, cond, List, length, refl}
 use native.Mathlib.Nat.{min-le_right}
-use Rattle.space.specs.Meaning.{Meaning, placed, spent, moved}
+use Rattle.space.specs.Meaning.{Meaning, spent, moved}
 use Rattle.space.specs.Laws.{Lawful, AllProper}
 use Rattle.space.specs.Calls.{done, commit_answer, committed, redo_answer, redone}
 use Rattle.space.specs.Layers.{layered}

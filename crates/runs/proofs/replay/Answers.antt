@@ -10,7 +10,7 @@ loop-call-preserved g c = (
   λ s.
       let i = c.loop-call.invariant.2 s in
       let k = c.ask.ensures i.2 in
-      let t = one_more _ _ _ c.args.calls.now c.loop-call.call-index Status _ _ c.ask.result (omega arith) i.0 i.1 k.0 k.1 c.push-reserved.ensures.items in
+      let t = one_more _ _ _ c.args.calls.now c.loop-call.call-index Status _ _ c.ask.result (omega arith) i.0 i.1 k.0 k.1 c.push_reserved.ensures.items in
       (t.0, t.1, k.2),
 )
 
