@@ -5,7 +5,7 @@ use Rattle.nodes.specs.Choosing.{status}
 use Rattle.propagation.specs.Networks.{Network}
 use Rattle.propagation.specs.Closing.{closure}
 use Rattle.problems.specs.Problems.{step}
-use Rattle.table_networks.specs.Tables.{Table, tables_network}
+use Rattle.table_networks.specs.Tables.{tables_network}
 use Rattle.sum_networks.specs.Sums.{sums_network}
 
 -- a problem by its constraints and start words, a path from the root, and the node and status that it leads to

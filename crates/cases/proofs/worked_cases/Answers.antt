@@ -4,7 +4,6 @@ use Rattle.words.specs.Words.{bit}
 use Rattle.nodes.specs.Choosing.{fewest, chosen}
 use Rattle.propagation.specs.Closing.{closure, sweeps, sweep}
 use Rattle.problems.specs.Problems.{step}
-use Rattle.table_networks.specs.Tables.{table_supports}
 use Rattle.sum_networks.specs.Sums.{largest, sum_supports}
 use Rattle.cases.proofs.worked_cases.Goals as goal
 
