@@ -1,3 +1,3 @@
-mod Exact
-mod Kept
+pub mod Exact
+pub mod Kept
 pub mod Undoing

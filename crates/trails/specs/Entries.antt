@@ -1,4 +1,4 @@
-use Rattle.std.specs.Prelude.{ℕ, zero, suc, ◌+◌, ◌^◌, ◌<◌, Bool, true, false, cond, ◌&&◌, List, [], ◌∷◌, length, set, Some, None, Option, ◌==◌, bit_xor, nat_le, nat_lt, slice_index_or, slice_set}
+use Rattle.std.specs.Prelude.{ℕ, zero, suc, ◌+◌, ◌^◌, ◌<◌, Bool, true, false, cond, ◌&&◌, List, [], ◌∷◌, length, Some, None, Option, ◌==◌, bit_xor, nat_le, nat_lt, slice_index_or, slice_set}
 use Rattle.words.specs.Words.{bit}
 use Rattle.trails.specs.declared.entry.Entry.{Entry}
 use Rattle.trails.specs.declared.entry.Mark.{Mark}

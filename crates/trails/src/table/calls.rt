@@ -9,7 +9,7 @@ use words::only;
 
 /// Writes an entry at its place in the table.
 fn put(place: &mut Entry, entry: Entry)
-    ensures { place.exit.now ≡ entry }
+    ensures { place.new ≡ entry }
 {
     *place = entry;
 }

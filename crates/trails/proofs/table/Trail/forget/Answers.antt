@@ -4,10 +4,10 @@ use Rattle.trails.specs.Entries.{noted, noted_all, forgotten, none, back, newest
 use Rattle.trails.proofs.Kept.{unset, fine_top, newest_top, ends}
 use Rattle.trails.proofs.table.Trail.forget.Goals as goal
 
-pub invariant-of-self : goal.invariant-of-self
-invariant-of-self c =
+pub invariant_of-self : goal.invariant_of-self
+invariant_of-self c =
     let t = c.args.self.now in
-    (t.long, (omega (arith, t.few), ((fine_top t.entries t.marks t.count (omega arith) t.ok).rest, tt)))
+    record { long = t.long; few = omega (arith, t.few); ok = (fine_top t.entries t.marks t.count (omega arith) t.ok).rest }
 
 pub loop-i-init : goal.loop-i-init
 loop-i-init c =

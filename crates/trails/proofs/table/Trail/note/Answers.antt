@@ -19,21 +19,21 @@ bounds-self-at c =
     let low : (get_or t.marks (t.count - 1) unset).words < 2 ^ 32 = omega arith in
     (adds_top t.entries t.marks t.count c.args.entry _ (omega arith) t.few t.long.0 t.ok lt low (sym c.if-has.ensures) (is_only c.args.entry.word lt)).place
 
-pub overflow-add-self : goal.overflow-add-self
-overflow-add-self c =
+pub overflow_add-self : goal.overflow_add-self
+overflow_add-self c =
     let t = c.args.self.now in
     let lt : c.args.entry.word < 32 = omega arith in
     let low : (get_or t.marks (t.count - 1) unset).words < 2 ^ 32 = omega arith in
     omega (arith, (adds_top t.entries t.marks t.count c.args.entry _ (omega arith) t.few t.long.0 t.ok lt low (sym c.if-has.ensures) (is_only c.args.entry.word lt)).small)
 
-pub invariant-of-self : goal.invariant-of-self
-invariant-of-self c =
+pub invariant_of-self : goal.invariant_of-self
+invariant_of-self c =
     let t = c.args.self.now in
     let lt : c.args.entry.word < 32 = omega arith in
     let low : (get_or t.marks (t.count - 1) unset).words < 2 ^ 32 = omega arith in
     let a = adds_top t.entries t.marks t.count c.args.entry c.only.result (omega arith) t.few t.long.0 t.ok lt low (sym c.if-has.ensures) (c.only.ensures.one lt) in
     let n = notes t.entries t.marks t.count c.args.entry _ c.only.result (omega arith) (omega (arith, t.long.1)) a c.put.ensures in
-    ((length-set _ _ _ ∙ t.long.0, length-set _ _ _ ∙ t.long.1), (t.few, (n.ok, tt)))
+    record { long = (length-set _ _ _ ∙ t.long.0, length-set _ _ _ ∙ t.long.1); few = t.few; ok = n.ok }
 
 pub returns : goal.returns
 returns c =

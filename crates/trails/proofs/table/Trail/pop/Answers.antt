@@ -13,13 +13,13 @@ bounds-self-mark c =
     let t = c.args.self.now in
     omega (arith, ends t.entries t.marks t.count (omega arith) t.few t.ok)
 
-pub invariant-of-self : goal.invariant-of-self
-invariant-of-self c =
+pub invariant_of-self : goal.invariant_of-self
+invariant_of-self c =
     let t = c.args.self.now in
     let low : (get_or t.marks (t.count - 1) unset).words < 2 ^ 32 = omega arith in
     let k = takes_top t.entries t.marks t.count (omega arith) t.ok (omega arith) low in
     let p = pops t.entries t.marks t.count _ c.only.result (omega arith) (omega (arith, t.long.1)) k (c.only.ensures.one k.small) in
-    ((t.long.0, length-set _ _ _ ∙ t.long.1), (t.few, (p.2, tt)))
+    record { long = (t.long.0, length-set _ _ _ ∙ t.long.1); few = t.few; ok = p.2 }
 
 pub returns : goal.returns
 returns c =
