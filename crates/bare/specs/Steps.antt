@@ -1,13 +1,12 @@
-use Rattle.std.specs.Prelude.{◌≡◌, ℕ, zero, suc, ◌+◌, ◌-◌, ◌^◌, ◌<◌, ◌≤◌, Bool, true, false, cond, ◌⊎◌, List, [], ◌∷◌, ◌++◌, length, take, set, replicate, Some, None, Ok, Err, Option, Result, ◌==◌, nat_le, nat_lt, slice_index, slice_set, refl}
+use Rattle.std.specs.Prelude.{◌≡◌, ℕ, ◌+◌, ◌-◌, ◌^◌, ◌<◌, ◌≤◌, Bool, true, false, cond, List, length, take, replicate, Some, None, Ok, Err, Option, Result, ◌==◌, nat_le, nat_lt, slice_index, slice_set, refl}
 use Rattle.std.proofs.Common.{sym, ◌∙◌, inl, inr, arith}
 use Rattle.std.proofs.Math.Path.{ap, subst}
 use Rattle.std.proofs.Math.Seq.{take-set-lt}
 use Rattle.std.proofs.lemmas.List.{ext_get_or, get_or_append_left, get_or-append-add, get_or_past, get_or-replicate, get_or-set_same, get_or-set_other, get_or-take, length-append, length-replicate, length-set, length-take}
 use Rattle.std.proofs.lemmas.Bool.{both_ways, cases_eq, cases_lt, eq-eqb, ne_eqb, leb-true, le-leb, lt-leb, le-ltb, lt-ltb}
-use Rattle.trees.specs.Trees.{Tree, Orderly}
 use Rattle.trees.specs.declared.Status.{Status}
 use Rattle.trees.specs.declared.Status.TheVariants.{Failed, Solved, Choice}
-use Rattle.words.specs.Words.{Fit, Proper}
+use Rattle.words.specs.Words.{Proper}
 use Rattle.nodes.specs.Choosing.{status, chosen, smallest, empty_below, fewest}
 use Rattle.nodes.proofs.Chosen.{choice_is}
 use Rattle.propagation.specs.Networks.{Network, Supported}
@@ -16,11 +15,11 @@ use Rattle.problems.specs.Problems.{narrowed, proper, step, tree_of}
 use Rattle.problems.proofs.Laws.{proper_is, is_proper}
 use Rattle.space.specs.declared.refusal.Refusal.{Refusal}
 use Rattle.space.specs.declared.refusal.Refusal.TheVariants.{Allowance, Bound, NotChoice, Alternative, Word}
-use Rattle.space.specs.Meaning.{Meaning, is_choice, is_failed, status_now}
+use Rattle.space.specs.Meaning.{Meaning, is_choice, is_failed}
 use Rattle.space.specs.Laws.{Lawful, NamedByWords}
 use Rattle.space.specs.Calls.{Commits, Loaded, Redoes}
 use Rattle.space.proofs.Steps.{commit_refused, commit_taken, redo_refused, redo_taken}
-use Rattle.bare.specs.Bares.{Agrees, Remembers, bare_meaning, choice_answer, limit, padded}
+use Rattle.bare.specs.Bares.{Agrees, Remembers, bare_meaning, choice_answer, padded}
 
 -- ---- what a choice tells
 

@@ -6,7 +6,6 @@ ghost use Rattle.nodes.specs.Choosing.{status};
 ghost use Rattle.propagation.specs.Closing.{closure};
 ghost use Rattle.problems.specs.Problems.{LeavesSolve, Priced};
 ghost use Rattle.bare.specs.Bares.{Agrees, bare_meaning, choice_answer, limit, padded};
-ghost use Rattle.std.proofs.Common.{rules};
 ghost use Rattle.bare.specs.Steps;
 
 use nodes::choosing;
@@ -80,7 +79,7 @@ impl<P: Problem> Space for Bare<P> {
 
     ghost sound = { λ s. Agrees (P.Constraints.network s.problem) (bare_meaning (P.Constraints.network s.problem) (P.Problem.start s.problem) (P.Problem.bound s.problem) (P.Problem.cost s.problem) s.current.words s.allowance) P.Problem.less s.root.words s.known s.closed };
 
-    ghost lawful = { Prim.search rules };
+    ghost lawful = { λ s w. Steps.lawful (P.Constraints.network s.problem) (P.Problem.start s.problem) (P.Problem.bound s.problem) (P.Problem.cost s.problem) s.root.words s.current.words s.allowance s.known s.closed w };
 
     fn status(&self) -> Status {
         match self.known {

@@ -9,7 +9,9 @@ use Rattle.space.specs.Meaning.{Meaning, words_now, placed}
 use Rattle.space.specs.Laws.{AllProper, Lawful, NamedByWords}
 use Rattle.space.specs.Calls.{done, turn_answer, restored, forgotten, Marks, Restores, Forgets}
 use Rattle.space.specs.Layers.{above, layered}
-use Rattle.copying.specs.Copied.{held_by}
+use Rattle.space.proofs.Layers.{lawful_layered}
+use Rattle.copying.specs.declared.copies.Copies.{Copies}
+use Rattle.copying.specs.Copied.{held_by, copied, CopiesProper}
 
 module _ {N : Type 0} (named : List ℕ → N) (width : ℕ) where
   -- as many nodes are held as there are copies
@@ -88,3 +90,8 @@ module _ {N C : Type 0} where
       let e = held_newest named m.width nodes count (record { words = [] }) some fits in
       let t = turns m capacity _ _ _ e in
       ((t.0, t.2), (subst (AllProper m.tree) e p).1)
+
+-- the layer over a lawful space is lawful
+pub lawful_over : {N C : Type 0} (named : List ℕ → N) (m : Meaning N C) {less : C → C → Bool} (k : Copies) → Lawful m less → CopiesProper named m k → Lawful (copied named m k) less
+lawful_over named m k w p =
+    lawful_layered m k.capacity _ w p k.bounds.2 (omega (arith, held_count named m.width k.nodes k.count (omega (arith, k.bounds.0, k.bounds.1, k.bounds.2)), k.bounds.1))

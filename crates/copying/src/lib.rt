@@ -4,9 +4,7 @@
 ghost use Rattle.std.specs.Prelude.{◌≡◌, min};
 ghost use Rattle.space.specs.Layers.{made_over};
 ghost use Rattle.copying.specs.Copied.{copied, CopiesProper};
-ghost use Rattle.std.proofs.Common.{arith};
-ghost use Rattle.space.proofs.Layers.{lawful_layered};
-ghost use Rattle.copying.specs.Holding.{held_count};
+ghost use Rattle.copying.specs.Holding.{lawful_over};
 
 use copies::Copies;
 use loading::{copy_out, load};
@@ -53,11 +51,7 @@ impl<S: Loadable> Space for Copying<S> {
 
     ghost sound = { λ s. S.Space.sound s.below × CopiesProper S.Space.named (S.Space.meaning s.below) s.copies };
 
-    ghost lawful = { λ s w.
-        let k = s.copies in
-        let m = S.Space.meaning s.below in
-        let e = held_count S.Space.named m.width k.nodes k.count (omega (arith, k.bounds.0, k.bounds.1, k.bounds.2)) in
-        lawful_layered m k.capacity _ (S.Space.lawful s.below w.0) w.1 k.bounds.2 (omega (arith, e, k.bounds.1)) };
+    ghost lawful = { λ s w. lawful_over S.Space.named (S.Space.meaning s.below) s.copies (S.Space.lawful s.below w.0) w.1 };
 
     fn status(&self) -> Status {
         self.below.status()

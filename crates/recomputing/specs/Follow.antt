@@ -2,7 +2,13 @@ use Rattle.std.specs.Prelude.{◌≡◌, ℕ, zero, suc, ◌+◌, ◌<◌, ◌�
 use Rattle.std.proofs.Common.{sym, ap, ◌∙◌, add-one, arith, take-append-drop, take-suc, length-take-le}
 use Rattle.std.proofs.lemmas.List.{take-append-le}
 use Rattle.trees.specs.Trees.{Tree, Chooses, Orderly}
-use Rattle.space.specs.Laws.{AllProper}
+use Rattle.space.specs.Meaning.{Meaning}
+use Rattle.space.specs.Laws.{AllProper, Lawful}
+use Rattle.space.proofs.Layers.{lawful_layered}
+use Rattle.traces.proofs.Arrays.{length_newest}
+use Rattle.traces.specs.Traces.{line}
+use Rattle.traces.specs.declared.Trace.{Trace}
+use Rattle.recomputing.specs.Agreement.{Agrees, recomputing}
 use Rattle.traces.specs.Lines.{top}
 use Rattle.recomputing.specs.Paths.{follow, Legal, nodes, Descends}
 
@@ -67,3 +73,11 @@ module _ {N C : Type 0} where
   pub length_nodes : (t : Tree N C) (p ds : List ℕ) → length (nodes t p ds) ≡ length ds
   length_nodes t p [] = refl
   length_nodes t p (d ∷ ds) = ap suc (length_nodes t p ds)
+
+few_depths : (t : Trace) → length (line t).depths ≤ 32
+few_depths t = omega (arith, length_newest t.depths t.held, t.depths_ok.0, t.depths_ok.1)
+
+-- the layer over a lawful space is lawful
+pub lawful_over : {N C : Type 0} (m : Meaning N C) {less : C → C → Bool} (t : Trace) → Lawful m less → Agrees m (line t) → Lawful (recomputing m (line t)) less
+lawful_over m t k a =
+    lawful_layered m 32 _ k (proper_nodes _ k.orderly (line t).path (line t).depths a.legal) (omega arith) (omega (arith, length_nodes m.tree (line t).path (line t).depths, few_depths t))

@@ -10,10 +10,7 @@ ghost use Rattle.traces.specs.Traces.{line};
 ghost use Rattle.recomputing.specs.Paths.{Redoable, at_depth};
 ghost use Rattle.recomputing.specs.Agreement.{Loose, gone_back, meaning_over, sound_over};
 ghost use Rattle.recomputing.specs.Effects.{checked_below, stepped_line, marked_line, restored_line, pruned_line, forgotten_line};
-ghost use Rattle.std.proofs.Common.{arith};
-ghost use Rattle.traces.proofs.Arrays.{length_newest};
-ghost use Rattle.space.proofs.Layers.{lawful_layered};
-ghost use Rattle.recomputing.specs.Follow.{length_nodes, proper_nodes};
+ghost use Rattle.recomputing.specs.Follow.{lawful_over};
 
 use space::Space;
 use space::refusal::Refusal;
@@ -101,11 +98,7 @@ impl<S: Space> Space for Recomputing<S> {
 
     ghost sound = { sound_over S.Space.sound S.Space.meaning };
 
-    ghost lawful = { λ s w.
-        let k = S.Space.lawful s.below w.0 in
-        let e = length_nodes (S.Space.meaning s.below).tree (line s.trace).path (line s.trace).depths in
-        let f = length_newest s.trace.depths s.trace.held in
-        lawful_layered (S.Space.meaning s.below) 32 _ k (proper_nodes _ k.orderly (line s.trace).path (line s.trace).depths w.1.legal) (omega arith) (omega arith) };
+    ghost lawful = { λ s w. lawful_over (S.Space.meaning s.below) s.trace (S.Space.lawful s.below w.0) w.1 };
 
     fn status(&self) -> Status {
         self.below.status()

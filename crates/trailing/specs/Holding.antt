@@ -1,4 +1,4 @@
-use Rattle.std.specs.Prelude.{◌≡◌, ℕ, ◌<◌, ◌≤◌, Bool, true, false, cond, ◌⊎◌, List, [], ◌∷◌, map, length, take, set, Some, None, Ok, Err, Result, slice_set, refl}
+use Rattle.std.specs.Prelude.{◌≡◌, ℕ, ◌<◌, ◌≤◌, Bool, true, false, cond, List, [], ◌∷◌, map, length, take, Some, None, Ok, Err, Result, slice_set, refl}
 use Rattle.std.proofs.Common.{sym, ap, subst, ◌∙◌, inl, inr, arith}
 use Rattle.std.proofs.lemmas.List.{length-map, take-set-le}
 use Rattle.std.proofs.Math.Seq.{set_out, take-set-lt}
@@ -10,7 +10,7 @@ use Rattle.space.specs.Meaning.{Meaning, words_now, placed, moved, spent}
 use Rattle.space.specs.Laws.{AllProper, Lawful, NamedByWords}
 use Rattle.space.specs.Calls.{done, commit_answer, redo_answer, turn_answer, restored, forgotten, Sets, Commits, Redoes, Marks, Restores, Forgets}
 use Rattle.space.specs.Layers.{above, layered}
-use Rattle.space.proofs.Layers.{committed_layered, redone_layered}
+use Rattle.space.proofs.Layers.{lawful_layered, committed_layered, redone_layered}
 use Rattle.trails.specs.declared.entry.Entry.{Entry}
 use Rattle.trails.specs.Entries.{undone, before, newest_entry, popped, marked}
 use Rattle.trails.specs.Entries as entries
@@ -206,3 +206,8 @@ module _ {N C : Type 0} where
           room = omega (arith, a.room, ap length left, length_before ts ws, length_before ss (undone s ws));
         },
       )
+
+-- the layer over a lawful space is lawful
+pub lawful_over : {N C : Type 0} (named : List ℕ → N) (m : Meaning N C) {less : C → C → Bool} (ss : List (List Entry)) (copy : List ℕ) (most : ℕ)
+    → Lawful m less → Agrees named m ss copy most → Lawful (trailed named m ss most) less
+lawful_over named m ss copy most w a = lawful_layered m most (held_by named ss (words_now m)) w a.nodes a.capacity (omega (arith, held_count named ss (words_now m), a.room))

@@ -7,9 +7,7 @@ ghost use Rattle.space.specs.Layers.{made_over};
 ghost use Rattle.trails.specs.Entries.{before, newest_entry};
 ghost use Rattle.trails.specs.Segments.{segments};
 ghost use Rattle.trailing.specs.Trailed.{trailed, Agrees, Follows, PutBack, held_by};
-ghost use Rattle.std.proofs.Common.{arith};
-ghost use Rattle.space.proofs.Layers.{lawful_layered};
-ghost use Rattle.trailing.specs.Holding.{held_count};
+ghost use Rattle.trailing.specs.Holding.{lawful_over};
 
 use loading::copy_out;
 use nodes::node::Node;
@@ -96,10 +94,7 @@ impl<S: Loadable> Space for Trailing<S> {
 
     ghost sound = { λ s. S.Space.sound s.below × Agrees S.Space.named (S.Space.meaning s.below) (segments s.trail) s.seen.words s.capacity };
 
-    ghost lawful = { λ s w.
-        let m = S.Space.meaning s.below in
-        let e = held_count S.Space.named (segments s.trail) (words_now m) in
-        lawful_layered m s.capacity (held_by S.Space.named (segments s.trail) (words_now m)) (S.Space.lawful s.below w.0) w.1.nodes w.1.capacity (omega (arith, e, w.1.room)) };
+    ghost lawful = { λ s w. lawful_over S.Space.named (S.Space.meaning s.below) (segments s.trail) s.seen.words s.capacity (S.Space.lawful s.below w.0) w.1 };
 
     fn status(&self) -> Status {
         self.below.status()
