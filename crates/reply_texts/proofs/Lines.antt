@@ -1,4 +1,4 @@
-use Rattle.std.proofs.Common.{◌≡◌, ℕ, ◌+◌, ◌<◌, List, [], ◌∷◌, ◌++◌, length, get_or, take, None, codes, decimal, Option, sym, refl, ap, ◌∙◌, append_assoc, append-nil, add-one, take-suc}
+use Rattle.std.proofs.Common.{◌≡◌, ℕ, ◌+◌, ◌<◌, List, [], ◌∷◌, ◌++◌, length, get_or, take, None, codes, decimal, Option, sym, ap, ◌∙◌, append_assoc, append-nil, add-one, take-suc}
 use Rattle.space.specs.declared.refusal.Refusal.{Refusal}
 use Rattle.space.specs.Calls.{named_layer, number}
 use Rattle.runs.specs.declared.calls.Answer.{Answer}

@@ -1,5 +1,4 @@
 use Rattle.std.specs.Prelude.{ℕ, List, [], ◌∷◌, ◌++◌, Some, None, codes, decimal, Option}
-use Rattle.std.specs.Fmt.{signed_decimal}
 use Rattle.trees.specs.declared.Status.{Status}
 use Rattle.trees.specs.declared.Status.TheVariants.{Failed, Solved, Choice}
 use Rattle.space.specs.declared.refusal.Refusal.{Refusal}

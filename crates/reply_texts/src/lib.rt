@@ -8,7 +8,6 @@ ghost use Rattle.reply_texts.specs.Replies.{answer_text, answers_text, pair_text
 use runs::calls::Answer;
 use space::refusal::Refusal;
 use std::alloc::{AllocError, Global};
-use std::fmt;
 use trees::Status;
 
 /// A cost that can be written.
@@ -16,14 +15,14 @@ pub trait Shown: Copy {
     ghost shown: { Self → List ℕ };
 
     /// Adds the cost to a text.
-    fn put(self, text: &mut String) -> fmt::Result
+    fn put(self, text: &mut String) -> Result<(), AllocError>
         ensures { OnOk result (string_bytes text.new ≡ string_bytes text.old ++ shown self) };
 }
 
 impl Shown for (u32, u32) {
     ghost shown = { pair_text };
 
-    fn put(self, text: &mut String) -> fmt::Result {
+    fn put(self, text: &mut String) -> Result<(), AllocError> {
         let (stops, minutes) = self;
         write!(text, "{stops}/{minutes}")
     }
@@ -32,7 +31,7 @@ impl Shown for (u32, u32) {
 impl Shown for i64 {
     ghost shown = { signed_decimal };
 
-    fn put(self, text: &mut String) -> fmt::Result {
+    fn put(self, text: &mut String) -> Result<(), AllocError> {
         let total = self;
         write!(text, "{total}")
     }
@@ -41,14 +40,14 @@ impl Shown for i64 {
 impl Shown for u16 {
     ghost shown = { decimal };
 
-    fn put(self, text: &mut String) -> fmt::Result {
+    fn put(self, text: &mut String) -> Result<(), AllocError> {
         let number = self;
         write!(text, "{number}")
     }
 }
 
 /// Adds the line of a status.
-fn put_status(text: &mut String, status: Status) -> fmt::Result
+fn put_status(text: &mut String, status: Status) -> Result<(), AllocError>
     ensures { OnOk result (string_bytes text.new ≡ string_bytes text.old ++ status_text status) }
 {
     match status {
@@ -62,7 +61,7 @@ fn put_status(text: &mut String, status: Status) -> fmt::Result
 }
 
 /// Adds the line of a refusal.
-fn put_refusal(text: &mut String, refusal: Refusal) -> fmt::Result
+fn put_refusal(text: &mut String, refusal: Refusal) -> Result<(), AllocError>
     ensures { OnOk result (string_bytes text.new ≡ string_bytes text.old ++ refusal_text refusal) }
 {
     let number = refusal.number();
@@ -73,7 +72,7 @@ fn put_refusal(text: &mut String, refusal: Refusal) -> fmt::Result
 }
 
 /// Adds the line of an answer.
-fn put_answer<C: Shown>(text: &mut String, answer: Answer<C>) -> fmt::Result
+fn put_answer<C: Shown>(text: &mut String, answer: Answer<C>) -> Result<(), AllocError>
     ensures { OnOk result (string_bytes text.new ≡ string_bytes text.old ++ answer_text C.Shown.shown answer) }
 {
     match answer {
@@ -94,10 +93,7 @@ pub fn answers_text<C: Shown>(heap: Global, answers: &[Answer<C>]) -> Result<Str
 {
     let mut text = String::new(heap);
     for answer in answers {
-        match put_answer(&mut text, *answer) {
-            Ok(()) => (),
-            Err(_) => return Err(AllocError),
-        }
+        put_answer(&mut text, *answer)?;
     }
     Ok(text)
 }

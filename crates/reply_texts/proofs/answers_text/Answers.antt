@@ -3,7 +3,7 @@ use Rattle.reply_texts.proofs.Lines.{line_more}
 use Rattle.reply_texts.proofs.answers_text.Goals as goal
 
 pub loop-answer-preserved : goal.loop-answer-preserved
-loop-answer-preserved g c = line_more g.C.Shown.shown c.args.answers.now c.loop-answer.answer-index c.answer-item.result _ _ (omega arith) c.loop-answer.invariant c.answer-item.is c.in-Ok.ensures
+loop-answer-preserved g c = line_more g.C.Shown.shown c.args.answers.now c.loop-answer.answer-index c.answer-item.result _ _ (omega arith) c.loop-answer.invariant c.answer-item.is c.in_ok-put_answer.ensures
 
 pub returns : goal.returns
 returns g c =

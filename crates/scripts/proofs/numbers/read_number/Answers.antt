@@ -13,7 +13,7 @@ loop-x-preserved c = (
 
 pub returns-in_err-value : goal.returns-in_err-value
 returns-in_err-value c =
-    c.from-residual.ensures
+    c.from_residual.ensures
     ∙ no_digit 1000000000000 c.loop-x.number c.loop-x.x-index c.args.text.now (omega arith) (sym c.digit.ensures ∙ c.in_err-value.was) c.loop-x.invariant.1
 
 pub returns-then-is_empty : goal.returns-then-is_empty

@@ -12,7 +12,7 @@ loop-calls-init c = (omega arith, read_none _ _ c.new-calls.ensures.items)
 
 pub returns-in_err-add_line : goal.returns-in_err-add_line
 returns-in_err-add_line c =
-    let p = err_from_is_err_and c.from-residual.result c.from-residual.ensures.1 in
+    let p = err_from_is_err_and c.from_residual.result c.from_residual.ensures.1 in
     rw (p.1, p.2) (refused c.loop-calls.invariant.1 c.cut.ensures.parts _ c.in_err-add_line.ensures)
 
 pub returns-in_default : goal.returns-in_default
