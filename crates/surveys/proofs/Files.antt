@@ -1,16 +1,8 @@
-use Rattle.std.proofs.Common.{◌≡◌, ℕ, List, ℤ, Option, sym, refl, ap, ◌∙◌, subst}
-use lib.Signed.{lt_z}
+use Rattle.std.proofs.Common.{◌≡◌, ℕ, List, ℤ, Option, subst}
 use Rattle.trees.specs.declared.Status.{Status}
-use Rattle.records.specs.Checks.{LawfulTable, LawfulSum}
-use Rattle.records.specs.Tables.{variable_count, table_count}
-use Rattle.records.specs.Sums.{sum_width, sum_count}
-use Rattle.table_networks.specs.Costs as costs
 use Rattle.table_networks.specs.Files as tables
 use Rattle.sum_networks.specs.Files as sums
-use Rattle.answers.specs.declared.Price.TheVariants.{Pair, Total}
-use Rattle.answers.specs.declared.Sort.TheVariants.{Table, Sum}
-use Rattle.answers.specs.declared.Survey.{Survey}
-use Rattle.surveys.specs.Surveys.{Seen, SolvedBy, TableSurvey, SumSurvey, TableTree, SumTree, table_bound, priced}
+use Rattle.surveys.specs.Surveys.{Seen, TableTree, SumTree, table_bound}
 
 -- what is known of the bytes ds that a problem stands on is known of the file bs
 
