@@ -10,4 +10,4 @@ use Rattle.table_networks.proofs.Tabled.{tables_sane}
 pub network_sane : (bs : List ℕ) → LawfulTable bs → Sane (network_of bs)
 network_sane bs ok =
     tables_sane (variable_count bs) (table_count bs) (table_at bs)
-    (λ k l. record { «x_below» = x_below bs k ok l; y_below = y_below bs k ok l; apart = ends_apart bs k ok l })
+    (λ k l. record { x_below = x_below bs k ok l; y_below = y_below bs k ok l; apart = ends_apart bs k ok l })

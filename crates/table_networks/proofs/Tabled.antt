@@ -60,7 +60,7 @@ touch_y x y = bit_of_or (2 ^ x) (2 ^ y) y ∙ or_right (bit (2 ^ x) y) (bit (2 ^
 
 -- the two variables are in use, and differ
 pub record Sound (width : ℕ) (t : Table) : Type 0 where
-  pub «x_below» : t.x < width
+  pub x_below : t.x < width
   pub y_below : t.y < width
   pub apart : t.x ≡ t.y → ⊥
 
@@ -78,7 +78,7 @@ module _ (width : ℕ) (t : Table) (s : Sound width t) (a o : List ℕ) (is : As
   table_met : ((i v : ℕ) → has o i v ≡ true → table_supports t o i v ≡ true) → table_meets t a ≡ true
   table_met h =
       let v = get_or a t.x 0 in
-      let p = some_parts (λ b. has o t.y b && allows t v b) 32 (sym (at_x t o t.x v refl) ∙ h t.x v (there t.x s.«x_below»)) in
+      let p = some_parts (λ b. has o t.y b && allows t v b) 32 (sym (at_x t o t.x v refl) ∙ h t.x v (there t.x s.x_below)) in
       let q = and_parts (has o t.y p.0) (allows t v p.0) p.2 in
       let e = alone t.y p.0 s.y_below q.0 in
       and_from (ltb v 32 && ltb (get_or a t.y 0) 32) (allows t v (get_or a t.y 0))
@@ -90,15 +90,15 @@ module _ (width : ℕ) (t : Table) (s : Sound width t) (a o : List ℕ) (is : As
           let w = get_or a t.y 0 in
           let p = some_parts (λ u. has o t.x u && allows t u w) 32 (sym (at_y t o t.y w (λ e. s.apart (sym e)) refl) ∙ h t.y w (there t.y s.y_below)) in
           let q = and_parts (has o t.x p.0) (allows t p.0 w) p.2 in
-          omega (arith, p.1, alone t.x p.0 s.«x_below» q.0)
+          omega (arith, p.1, alone t.x p.0 s.x_below q.0)
 
   table_holds : table_meets t a ≡ true → (i v : ℕ) → has o i v ≡ true → table_supports t o i v ≡ true
   table_holds meets i v h = elim (cases_eq i t.x) [
     | inl e ↦ at_x t o i v e ∙ some_from (λ b. has o t.y b && allows t v b) 32 (get_or a t.y 0) (ltb-true (get_or a t.y 0) 32 small.1)
-        (and_from (has o t.y (get_or a t.y 0)) (allows t v (get_or a t.y 0)) (there t.y s.y_below) (ap (λ (u : ℕ). allows t u (get_or a t.y 0)) (value t.x s.«x_below» e) ∙ parts.1))
+        (and_from (has o t.y (get_or a t.y 0)) (allows t v (get_or a t.y 0)) (there t.y s.y_below) (ap (λ (u : ℕ). allows t u (get_or a t.y 0)) (value t.x s.x_below e) ∙ parts.1))
     | inr ne ↦ elim (cases_eq i t.y) [
       | inl e ↦ at_y t o i v ne e ∙ some_from (λ u. has o t.x u && allows t u v) 32 (get_or a t.x 0) (ltb-true (get_or a t.x 0) 32 small.0)
-          (and_from (has o t.x (get_or a t.x 0)) (allows t (get_or a t.x 0) v) (there t.x s.«x_below») (ap (allows t (get_or a t.x 0)) (value t.y s.y_below e) ∙ parts.1))
+          (and_from (has o t.x (get_or a t.x 0)) (allows t (get_or a t.x 0) v) (there t.x s.x_below) (ap (allows t (get_or a t.x 0)) (value t.y s.y_below e) ∙ parts.1))
       | inr nf ↦ off t o i v ne nf
     ]
   ]
