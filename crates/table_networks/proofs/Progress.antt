@@ -28,7 +28,7 @@ pub finish : (rowf : ℕ → ℕ) (wx wy left kept any : ℕ) → Progress rowf 
 finish rowf wx wy left kept any p e = record {
   x_kept = p.x_kept;
   x_only = λ a h. (p.x_only a h, p.x_seen a h (none a));
-  «y_kept» = λ b h q. p.y_seen q.0 b q.1 (none q.0) h q.2;
+  y_kept = λ b h q. p.y_seen q.0 b q.1 (none q.0) h q.2;
   y_only = p.y_only;
 }
   where

@@ -168,7 +168,7 @@ module _ (t : Table) (n : List ℕ) (kx ky : ℕ) (lx : t.x < length n) (ly : t.
           (λ h. let q = and_parts (has n t.y v) (some (λ a. has n t.x a && allows t a v) 32) h in
           let p = some_parts (λ a. has n t.x a && allows t a v) 32 q.1 in
           let u = and_parts (has n t.x p.0) (allows t p.0 v) p.2 in
-          r.«y_kept» v q.0 (p.0, u.0, u.1))
+          r.y_kept v q.0 (p.0, u.0, u.1))
 
   pub differ : (dx dy : ℕ) → Change t.x (get_or n t.x 0) kx dx → Change t.y (get_or n t.y 0) ky dy → Differ n (set (set n t.x kx) t.y ky) (bit_or dx dy)
   differ dx dy cx cy = record {

@@ -50,5 +50,5 @@ PartnerY row wx b = (a : ℕ) × (bit wx a ≡ true) × (bit (row a) b ≡ true)
 pub record Kept (row : ℕ → ℕ) (wx wy kx ky : ℕ) : Type 0 where
   pub x_kept : (a : ℕ) → bit wx a ≡ true → PartnerX row wy a → bit kx a ≡ true
   pub x_only : (a : ℕ) → bit kx a ≡ true → (bit wx a ≡ true) × PartnerX row wy a
-  pub «y_kept» : (b : ℕ) → bit wy b ≡ true → PartnerY row wx b → bit ky b ≡ true
+  pub y_kept : (b : ℕ) → bit wy b ≡ true → PartnerY row wx b → bit ky b ≡ true
   pub y_only : (b : ℕ) → bit ky b ≡ true → (bit wy b ≡ true) × PartnerY row wx b
