@@ -6,7 +6,8 @@
 set -eu
 cd "$(dirname "$0")/.."
 data=crates/conformance/data
-[ -x target/bin/root ] || rt check root > /dev/null
+root=crates/root/out/root
+(cd crates/root && rt run < /dev/null > /dev/null 2>&1) # builds it where it is not built yet
 work=$(mktemp -d)
 trap 'rm -rf "$work"' EXIT
 rustc -O -o "$work/baseline" bench/baseline.rs
@@ -16,13 +17,13 @@ fi
 count() { # PROGRAM FILE: instructions executed
     valgrind --tool=callgrind --callgrind-out-file=/dev/null "$1" < "$2" 2>&1 > /dev/null | sed -n 's/.*Collected : //p'
 }
-a0=$(count target/bin/root "$data/one-value.rec")
+a0=$(count "$root" "$data/one-value.rec")
 b0=$(count "$work/baseline" "$data/one-value.rec")
 printf '%-24s %10s %10s %6s\n' "file" root baseline ratio
 printf '%-24s %10d %10d\n' "(one variable)" "$a0" "$b0"
 for file in "$@"; do
-    cmp -s <(target/bin/root < "$file") <("$work/baseline" < "$file") || { echo "$file: the two print different reports"; exit 1; }
-    a=$(($(count target/bin/root "$file") - a0))
+    cmp -s <("$root" < "$file") <("$work/baseline" < "$file") || { echo "$file: the two print different reports"; exit 1; }
+    a=$(($(count "$root" "$file") - a0))
     b=$(($(count "$work/baseline" "$file") - b0))
     printf '%-24s %10d %10d %6s\n' "$(basename "$file")" "$a" "$b" "$(awk "BEGIN { printf \"%.2f\", $a / $b }")"
 done

@@ -6,7 +6,8 @@
 set -eu
 cd "$(dirname "$0")/.."
 data=crates/conformance/data
-[ -x target/bin/replay ] || rt check replay > /dev/null
+replay=crates/replay/out/replay
+(cd crates/replay && rt run -- < /dev/null > /dev/null 2>&1) # builds it where it is not built yet
 work=$(mktemp -d)
 trap 'rm -rf "$work"' EXIT
 rustc -O -o "$work/baseline" bench/stack_baseline.rs
@@ -29,8 +30,8 @@ for file in "$@"; do
     printf '%-24s %12d' "$(basename "$file")" "$b"
     "$work/baseline" "$work/calls" < "$file" | sed 's/^refused 16 layer .*/refused 16/' > "$work/expected"
     for stack in $stacks; do
-        target/bin/replay "$stack" 1000000 "$work/calls" < "$file" | sed 's/^refused 16 layer .*/refused 16/' | cmp -s - "$work/expected" || { echo "$file $stack: the two print different answers"; exit 1; }
-        a=$(($(count "$file" target/bin/replay "$stack" 1000000 "$work/calls") - $(count "$file" target/bin/replay "$stack" 1000000 "$work/one")))
+        "$replay" "$stack" 1000000 "$work/calls" < "$file" | sed 's/^refused 16 layer .*/refused 16/' | cmp -s - "$work/expected" || { echo "$file $stack: the two print different answers"; exit 1; }
+        a=$(($(count "$file" "$replay" "$stack" 1000000 "$work/calls") - $(count "$file" "$replay" "$stack" 1000000 "$work/one")))
         printf ' %16d (%5s)' "$a" "$(awk "BEGIN { printf \"%.2f\", $a / $b }")"
     done
     echo

@@ -29,7 +29,8 @@ impl<F: Fn(usize, &mut Node) -> u32> Space<F> {
     fn step(&mut self, a: u32) -> bool {
         let Some((x, v)) = self.choice() else { return false };
         self.now[x] = if a == 0 { 1 << v } else { self.now[x] & !(1 << v) };
-        close(self.n, &self.touch, Some(1 << x), |k, w| (self.revise)(k, w), &mut self.now);
+        let revise = &self.revise;
+        close(self.n, &self.touch, Some(1 << x), |k, w| revise(k, w), &mut self.now);
         true
     }
 

@@ -15,7 +15,7 @@ use Rattle.nodes.proofs.Chosen.{failed_empty, solved_pow, choice_chosen, choice_
 use Rattle.nodes.proofs.Counts.{ones_pow, pow_value}
 use Rattle.propagation.specs.Networks.{Network, Supported, Sane, Assigns, dead}
 use Rattle.propagation.specs.Closing.{closure, total, words}
-use Rattle.propagation.proofs.Closures.{closure_supported, dead_word, closure_is, total_le, length_words, get_d_words}
+use Rattle.propagation.proofs.Closures.{closure_supported, dead_word, closure_is, total_le, length_words, get_or_words}
 use Rattle.problems.specs.Problems.{cut, values, tree_of, step, Solves, LeavesSolve}
 use Rattle.problems.proofs.Narrowing.{Lone, Open, part, dropped, part_inside, part_fit, part_proper, part_less, side, apart}
 
@@ -83,7 +83,7 @@ pub solved_assigns : (w : ℕ) (m : List ℕ) → Proper w m → status w m ≡ 
 solved_assigns w m pr e =
     let one = solved_pow w m pr.fit e in
     let f : ℕ → ℕ = (λ i. count_trailing_zeros 32 (get_or m i 0)) in
-    let at : (i : ℕ) → i < w → get_or (values w m) i 0 ≡ f i = (λ i l. get_d_words f w 0 i l ∙ ap f (omega arith)) in
+    let at : (i : ℕ) → i < w → get_or (values w m) i 0 ≡ f i = (λ i l. get_or_words f w 0 i l ∙ ap f (omega arith)) in
     record {
       long = length_words f w 0;
       value = λ i l. one i l ∙ ap (λ (v : ℕ). 2 ^ v) (sym (at i l));
@@ -239,7 +239,7 @@ module _ {C : Type 0} (p : Network) (s : Sane p) (high : p.width ≤ 32) (start 
     complete a q =
         let o = node_of a in
         let f : ℕ → ℕ = (λ i. cond (ltb i p.width) (2 ^ get_or a i 0) 0) in
-        let at : (i : ℕ) → i < 32 → get_or o i 0 ≡ cond (ltb i p.width) (2 ^ get_or a i 0) 0 = (λ i l. get_d_words f 32 0 i l ∙ ap f (omega arith)) in
+        let at : (i : ℕ) → i < 32 → get_or o i 0 ≡ cond (ltb i p.width) (2 ^ get_or a i 0) 0 = (λ i l. get_or_words f 32 0 i l ∙ ap f (omega arith)) in
         let long : length o ≡ 32 = length_words f 32 0 in
         let on : (i : ℕ) → i < p.width → get_or o i 0 ≡ 2 ^ get_or a i 0 = (λ i l. at i (omega arith) ∙ cond-true (ltb i p.width) (2 ^ get_or a i 0) 0 (lt-ltb i p.width l)) in
         let off : (i : ℕ) → p.width ≤ i → get_or o i 0 ≡ 0 = (λ i h. elim (cases_lt i 32) [

@@ -64,10 +64,10 @@ pub length_words : (f : ℕ → ℕ) (k i : ℕ) → length (words f k i) ≡ k
 length_words f zero i = refl
 length_words f (suc k) i = ap suc (length_words f k (suc i))
 
-pub get_d_words : (f : ℕ → ℕ) (k i j : ℕ) → j < k → get_or (words f k i) j 0 ≡ f (i + j)
-get_d_words f zero i j h = absurd (omega arith)
-get_d_words f (suc k) i zero h = ap f (sym (add-zero i))
-get_d_words f (suc k) i (suc j) h = get_d_words f k (suc i) j (omega arith) ∙ ap f (omega arith)
+pub get_or_words : (f : ℕ → ℕ) (k i j : ℕ) → j < k → get_or (words f k i) j 0 ≡ f (i + j)
+get_or_words f zero i j h = absurd (omega arith)
+get_or_words f (suc k) i zero h = ap f (sym (add-zero i))
+get_or_words f (suc k) i (suc j) h = get_or_words f k (suc i) j (omega arith) ∙ ap f (omega arith)
 
 -- ---- every constraint, as a test
 
@@ -89,7 +89,7 @@ module _ (p : Network) (n : List ℕ) where
 
   sweep_word : (i : ℕ) → i < 32 → get_or (sweep p n) i 0 ≡ word i
   unfolding word sweep
-  sweep_word i h = get_d_words (λ i. those (λ v. has n i v && supported p n p.count i v) 32) 32 0 i h ∙ ap (λ (x : ℕ). those (λ v. has n x v && supported p n p.count x v) 32) (omega arith)
+  sweep_word i h = get_or_words (λ i. those (λ v. has n i v && supported p n p.count i v) 32) 32 0 i h ∙ ap (λ (x : ℕ). those (λ v. has n x v && supported p n p.count x v) 32) (omega arith)
 
   pub sweep_fit : Fit (sweep p n)
   unfolding word sweep

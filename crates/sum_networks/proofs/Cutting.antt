@@ -147,10 +147,10 @@ length_words : (f : ℕ → ℕ) (k i : ℕ) → length (words f k i) ≡ k
 length_words f zero i = refl
 length_words f (suc k) i = ap suc (length_words f k (suc i))
 
-get_d_words : (f : ℕ → ℕ) (k i j : ℕ) → j < k → get_or (words f k i) j 0 ≡ f (i + j)
-get_d_words f zero i j h = absurd (omega arith)
-get_d_words f (suc k) i zero h = ap f (sym (add-zero i))
-get_d_words f (suc k) i (suc j) h = get_d_words f k (suc i) j (omega arith) ∙ ap f (omega arith)
+get_or_words : (f : ℕ → ℕ) (k i j : ℕ) → j < k → get_or (words f k i) j 0 ≡ f (i + j)
+get_or_words f zero i j h = absurd (omega arith)
+get_or_words f (suc k) i zero h = ap f (sym (add-zero i))
+get_or_words f (suc k) i (suc j) h = get_or_words f k (suc i) j (omega arith) ∙ ap f (omega arith)
 
 pub start_clear : (w j : ℕ) → w ≤ j → ◌≡◌ {A = ℕ} (cond (ltb j w) 3 0) 0
 start_clear w j h = cond-false (ltb j w) 3 0 (le-ltb j w h)
@@ -173,7 +173,7 @@ pub start_done : (bs ws : List ℕ) → length ws ≡ 32 → ((j : ℕ) → get_
 unfolding start_of
 start_done bs ws l h =
     ext_get_or 0 ws (words (λ i. cond (ltb i (sum_width bs)) 3 0) 32 0) (l ∙ sym (length_words (λ i. cond (ltb i (sum_width bs)) 3 0) 32 0))
-    (λ j m. h j ∙ ap (λ (x : ℕ). cond (ltb x (sum_width bs)) 3 0) (omega arith) ∙ sym (get_d_words (λ i. cond (ltb i (sum_width bs)) 3 0) 32 0 j (omega arith)))
+    (λ j m. h j ∙ ap (λ (x : ℕ). cond (ltb x (sum_width bs)) 3 0) (omega arith) ∙ sym (get_or_words (λ i. cond (ltb i (sum_width bs)) 3 0) 32 0 j (omega arith)))
 
 -- ---- the turns of the loops that add
 

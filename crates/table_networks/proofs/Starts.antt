@@ -3,7 +3,7 @@ use Rattle.std.proofs.lemmas.List.{ext_get_or, get_or_past, get_or-replicate, ge
 use Rattle.std.proofs.lemmas.Bool.{cases_eq, cases_lt, le-ltb, lt-ltb, cond-true, cond-false}
 use Rattle.words.specs.Words.{Proper}
 use Rattle.propagation.specs.Closing.{words}
-use Rattle.propagation.proofs.Closures.{length_words, get_d_words}
+use Rattle.propagation.proofs.Closures.{length_words, get_or_words}
 use Rattle.records.specs.Tables.{variable_count, start_word}
 use Rattle.table_networks.specs.Files.{start_of}
 
@@ -43,7 +43,7 @@ one_more f i w ws l h e s = record { long = length-set ws i w ∙ h.long; word =
 all_words : (f : ℕ → ℕ) (i : ℕ) (ws : List ℕ) → FilledTo f i ws → ws ≡ words (λ j. cond (ltb j i) (f j) 0) 32 0
 all_words f i ws h =
     ext_get_or 0 ws (words (λ j. cond (ltb j i) (f j) 0) 32 0) (h.long ∙ sym (length_words (λ j. cond (ltb j i) (f j) 0) 32 0))
-    (λ j l. h.word j ∙ sym (get_d_words (λ j. cond (ltb j i) (f j) 0) 32 0 j (omega (arith, h.long)) ∙ ap (λ (k : ℕ). cond (ltb k i) (f k) 0) (omega arith)))
+    (λ j l. h.word j ∙ sym (get_or_words (λ j. cond (ltb j i) (f j) 0) 32 0 j (omega (arith, h.long)) ∙ ap (λ (k : ℕ). cond (ltb k i) (f k) 0) (omega arith)))
 
 pub all_filled : (bs : List ℕ) (i : ℕ) (ws : List ℕ) → i ≡ variable_count bs → FilledTo (start_word bs) i ws → ws ≡ start_of bs
 unfolding start_of
