@@ -156,11 +156,11 @@ module _ {C : Type 0} (p : Network) (start : List ℕ) (bound cost : List ℕ �
       )
 
   -- the child at the choice
-  pub stepped : {less : C → C → Bool} (root n m : List ℕ) (allowance less-allowance a : ℕ) (known k : Option Status) (closed : Bool) (c : ℕ × ℕ) → Agrees p (at n allowance) less root known closed
-      → status p.width n ≡ Choice c → a ≤ 1 → m ≡ closure p (narrowed n c.0 c.1 a) → Supported p m → k ≡ Some (status p.width m) → less-allowance ≤ allowance
-      → (m ≡ step p n a) × Agrees p (at m less-allowance) less root k true
+  pub stepped : {less : C → C → Bool} (root n m : List ℕ) (allowance less_allowance a : ℕ) (known k : Option Status) (closed : Bool) (c : ℕ × ℕ) → Agrees p (at n allowance) less root known closed
+      → status p.width n ≡ Choice c → a ≤ 1 → m ≡ closure p (narrowed n c.0 c.1 a) → Supported p m → k ≡ Some (status p.width m) → less_allowance ≤ allowance
+      → (m ≡ step p n a) × Agrees p (at m less_allowance) less root k true
   unfolding step
-  stepped root n m allowance less-allowance a known k closed c s e l q sup r f =
+  stepped root n m allowance less_allowance a known k closed c s e l q sup r f =
       let is = choice_is p.width n c e in
       let g : m ≡ step p n a = q ∙ ap (λ (d : ℕ × ℕ). closure p (narrowed n d.0 d.1 a)) is in
       let proper-child = s.orderly.step_proper n a s.here (c, e) l in

@@ -1,4 +1,3 @@
-pub mod Conds
 pub mod Stepping
 pub mod Marking
 pub mod Turning

@@ -11,7 +11,7 @@ use Rattle.traces.specs.Lines.{Line, held_here, held_if_room, checked_here, chec
 use Rattle.recomputing.specs.Paths.{nodes}
 use Rattle.recomputing.specs.Agreement.{recomputing, Agrees}
 use Rattle.recomputing.specs.Effects.{checked_below, marked_line}
-use Rattle.recomputing.proofs.Conds.{cond-true, cond-false}
+use Rattle.std.proofs.lemmas.Bool.{cond-true, cond-false}
 use Rattle.recomputing.specs.Follow.{descends_more, top_bound, length_nodes}
 
 cond_held : (b : Bool) (l : Line) → cond b (checked_here (held_here l)) (held_here l) ≡ held_here (cond b (checked_here l) l)

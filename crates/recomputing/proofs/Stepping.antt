@@ -10,7 +10,7 @@ use Rattle.space.proofs.Layers.{committed_layered, redone_layered}
 use Rattle.traces.specs.Lines.{Line, stepped, stepped_if_room, top}
 use Rattle.recomputing.specs.Paths.{nodes}
 use Rattle.recomputing.specs.Agreement.{recomputing, Agrees}
-use Rattle.recomputing.proofs.Conds.{cond-true}
+use Rattle.std.proofs.lemmas.Bool.{cond-true}
 use Rattle.recomputing.specs.Follow.{follow_snoc, legal_snoc, rest_bound, nodes_more, descends_more, top_bound}
 
 module _ {N C : Type 0} where

@@ -6,7 +6,7 @@ use Rattle.traces.specs.Lines.{Line, cut, top}
 use Rattle.recomputing.specs.Paths.{follow, nodes, at_depth, Redoable}
 use Rattle.recomputing.specs.Agreement.{recomputing, Agrees, gone_back}
 use Rattle.recomputing.specs.Effects.{restored_line}
-use Rattle.recomputing.proofs.Conds.{cond-true}
+use Rattle.std.proofs.lemmas.Bool.{cond-true}
 use Rattle.recomputing.specs.Follow.{follow_more, legal_at, legal_take, nodes_cut, top_bound}
 
 module _ {N C : Type 0} where

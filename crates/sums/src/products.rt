@@ -18,7 +18,7 @@ pub(crate) fn product(c: i32, value: u32) -> i64
 
 /// The product at one end of a word, the lower or the upper one.
 fn end_product(c: i32, word: u32, lower: bool) -> i64
-    requires { ((word ≢ 0)) × (Small c) }
+    requires { (word ≢ 0) × (Small c) }
     ensures value { result ≡ product_at lower c word }
     ensures low { negsuc 30999999 ≤ℤ result }
     ensures high { result ≤ℤ pos 31000000 }
@@ -32,7 +32,7 @@ fn end_product(c: i32, word: u32, lower: bool) -> i64
 
 /// The largest product of the coefficient with a value of the word.
 pub(crate) fn most(c: i32, word: u32) -> i64
-    requires { ((word ≢ 0)) × (Small c) }
+    requires { (word ≢ 0) × (Small c) }
     ensures value { result ≡ largest c word }
     ensures low { negsuc 30999999 ≤ℤ result }
     ensures high { result ≤ℤ pos 31000000 }
@@ -42,7 +42,7 @@ pub(crate) fn most(c: i32, word: u32) -> i64
 
 /// The least product of the coefficient with a value of the word.
 pub(crate) fn least(c: i32, word: u32) -> i64
-    requires { ((word ≢ 0)) × (Small c) }
+    requires { (word ≢ 0) × (Small c) }
     ensures value { result ≡ smallest_product c word }
     ensures low { negsuc 30999999 ≤ℤ result }
     ensures high { result ≤ℤ pos 31000000 }
@@ -52,7 +52,7 @@ pub(crate) fn least(c: i32, word: u32) -> i64
 
 /// The values of the word whose product reaches the need.
 pub(crate) fn reaching(c: i32, word: u32, need: i64) -> u32
-    requires { ((word ≢ 0)) × (Small c) }
+    requires { (word ≢ 0) × (Small c) }
     ensures { Reaching c word need result }
 {
     if least(c, word) >= need {

@@ -9,7 +9,7 @@ use words::{lowest, without};
 
 /// The least stops and the least minutes over the values of a word of variable i.
 pub(crate) fn least_costs(view: &TableView, i: usize, word: u32) -> (u16, u16)
-    requires { (i < variable_count (bytes_of view.now)) × ((word ≢ 0)) }
+    requires { (i < variable_count (bytes_of view.now)) × (word ≢ 0) }
     ensures stops { Least (stops (bytes_of view.now) i) word result.0 }
     ensures minutes { Least (minutes (bytes_of view.now) i) word result.1 }
 {

@@ -6,7 +6,7 @@ ghost use Rattle.space.specs.Meaning.{words_now};
 ghost use Rattle.space.specs.Layers.{made_over};
 ghost use Rattle.trails.specs.Entries.{before, newest_entry};
 ghost use Rattle.trails.specs.Segments.{segments};
-ghost use Rattle.trailing.specs.Trailed.{trailed, Agrees, Follows, PutBack, held_by};
+ghost use Rattle.trailing.specs.Trailed.{trailed, Agrees, Follows, PutBack};
 ghost use Rattle.trailing.specs.Holding.{lawful_over};
 
 use loading::copy_out;

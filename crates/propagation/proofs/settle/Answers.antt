@@ -37,7 +37,7 @@ returns-then-emptied g c =
     let b = c.sweeps.node.words in
     let e = empty_some c.width-width.result _ (c.if-emptied.ensures.yes refl) in
     let d = ends_dead p sane n _ fit
-    (λ o i u. saves p sane n b m _ c.sweeps.first c.sweeps.changed c.each.changed c.each.k _ lt (c.revise-words.ensures.revised lt) c.revise-words.ensures.differ c.each.invariant o (c.sweeps.invariant.keeps o i u) u)
+    (λ o i u. saves p sane n b m _ _ _ _ c.each.k _ lt (c.revise-words.ensures.revised lt) c.revise-words.ensures.differ c.each.invariant o (c.sweeps.invariant.keeps o i u) u)
     (e.0, omega (arith, e.1, c.width-width.ensures.value), e.2) in
     record { value = λ _. d; largest = λ _. closure_law p sane n dead fit d; sane = sane }
 
@@ -57,15 +57,15 @@ each-preserved g c =
           let d = w.revise-words.result in
           let F : ℕ → Type 0 = (λ x. Filled x m') in
           let full : Filled p.width m' = elim (cases_eq d 0) [
-            | inl e ↦ still p sane n b m m' c.sweeps.first c.sweeps.changed c.each.changed c.each.k d lt r f c.each.invariant e
+            | inl e ↦ still p sane n b m m' _ _ _ c.each.k d lt r f c.each.invariant e
             | inr ne ↦ subst F c.width-width.ensures.value (none_filled c.width-width.result m' (w.if-emptied.ensures.no refl ne))
           ] in
           let e = w.node-is in let x = w.changed-is in
-          rw (e, x) (revise p sane n b m m' c.sweeps.first c.sweeps.changed c.each.changed c.each.k d lt r f c.each.invariant full))
+          rw (e, x) (revise p sane n b m m' _ _ _ c.each.k d lt r f c.each.invariant full))
       | else-due w ↦
           (let q = w.if-due.ensures refl lt in
           let e = w.node-is in let x = w.changed-is in
-          rw (e, x) (skip p sane n b m c.sweeps.first c.sweeps.changed c.each.changed c.each.k q.0 q.1 c.each.invariant))
+          rw (e, x) (skip p sane n b m _ _ _ c.each.k q.0 q.1 c.each.invariant))
     ]
 
 pub returns-then-changed-eq0 : goal.returns-then-changed-eq0

@@ -31,8 +31,7 @@ invariant_of-self c =
     let t = c.args.self.now in
     let lt : c.args.entry.word < 32 = omega arith in
     let low : (get_or t.marks (t.count - 1) unset).words < 2 ^ 32 = omega arith in
-    let a = adds_top t.entries t.marks t.count c.args.entry c.only.result (omega arith) t.few t.long.0 t.ok lt low (sym c.if-has.ensures) (c.only.ensures.one lt) in
-    let n = notes t.entries t.marks t.count c.args.entry _ c.only.result (omega arith) (omega (arith, t.long.1)) a c.put.ensures in
+    let n = notes t.entries t.marks t.count _ _ c.only.result (omega arith) (omega (arith, t.long.1)) (adds_top t.entries t.marks t.count _ c.only.result (omega arith) t.few t.long.0 t.ok lt low (sym c.if-has.ensures) (c.only.ensures.one lt)) c.put.ensures in
     record { long = (length-set _ _ _ ∙ t.long.0, length-set _ _ _ ∙ t.long.1); few = t.few; ok = n.ok }
 
 pub returns : goal.returns
