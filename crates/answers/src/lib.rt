@@ -1,8 +1,10 @@
 //! What is said of a file that is not refused.
 #![tactic(auto)]
 
-use nodes::node::Node;
+use nodes::Node;
 use trees::Status;
+
+mod text;
 
 /// Which constraints a file holds.
 #[derive(Drop, Clone, Copy)]

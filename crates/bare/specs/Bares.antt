@@ -1,4 +1,6 @@
 use Rattle.std.specs.Prelude.{◌≡◌, ℕ, ◌-◌, ◌<◌, ◌≤◌, Bool, true, cond, List, [], ◌++◌, length, replicate, Some, None, Ok, Err, Option, Result, nat_le}
+use Rattle.std.proofs.Props.{props}
+use Rattle.nodes.specs.Choosing.{status}
 use Rattle.trees.specs.Trees.{Orderly}
 use Rattle.trees.specs.declared.Status.{Status}
 use Rattle.trees.specs.declared.Status.TheVariants.{Failed, Solved, Choice}
@@ -6,7 +8,7 @@ use Rattle.propagation.specs.Networks.{Network, Supported}
 use Rattle.problems.specs.Problems.{tree_of, values}
 use Rattle.space.specs.declared.refusal.Refusal.{Refusal}
 use Rattle.space.specs.declared.refusal.Refusal.TheVariants.{NotChoice, Alternative}
-use Rattle.space.specs.Meaning.{Meaning, status_now}
+use Rattle.space.specs.Meaning.{Meaning}
 
 -- the most commits that any space allows
 abbrev pub limit : ℕ
@@ -31,25 +33,32 @@ bare_meaning p start bound cost node allowance = record {
 abbrev pub padded : List ℕ → List ℕ
 padded ws = ws ++ replicate (32 - length ws) 0
 
--- what is remembered of a status is true of it
-abbrev pub Remembers : Option Status → Status → Type 0
-Remembers None s = Unit {0}
-Remembers (Some k) s = k ≡ s
+-- what is remembered of a node is true of it: its status, and that every constraint supports every value of it
+abbrev pub Remembers : Option Status → Network → List ℕ → Type 0
+Remembers None p n = Unit {0}
+Remembers (Some s) p n = (s ≡ status p.width n) × Supported p n
 
 -- The parts of a bare space agree: its problem has a tree in order, of which it keeps the root; its current node is a
 -- node of it; it allows no more commits than any space may; and every constraint supports every value of the root, and
--- of the current node if that is said to be closed.
-pub record Agrees {C : Type 0} (p : Network) (m : Meaning (List ℕ) C) (less : C → C → Bool) (root : List ℕ) (known : Option Status) (closed : Bool) : Type 0 where
+-- of the current node if its status is remembered.
+pub record Agrees {C : Type 0} (p : Network) (m : Meaning (List ℕ) C) (less : C → C → Bool) (root : List ℕ) (known : Option Status) : Type 0 where
   pub orderly : Orderly m.tree less m.width
   pub priced : (n : List ℕ) → m.tree.proper n ≡ true → m.tree.status n ≡ Solved → m.tree.bound n ≡ m.cost n
   pub low : 0 < m.width
   pub high : m.width ≤ 32
   pub kept : root ≡ m.tree.root
   pub here : m.tree.proper m.current ≡ true
-  pub remembered : Remembers known (status_now m)
+  pub remembered : Remembers known p m.current
   pub most : m.allowance ≤ limit
-  pub root_closed : Supported p root
-  pub here_closed : closed ≡ true → Supported p m.current
+  pub closed : Supported p root
+
+remembers_prop : (known : Option Status) (p : Network) (n : List ℕ) → IsProp (Remembers known p n)
+remembers_prop None p n = hlevel props
+remembers_prop (Some s) p n = hlevel props
+
+-- that they agree is a fact, where the equality of costs is one
+pub agrees_prop : {C : Type 0} → IsSet C → (p : Network) (m : Meaning (List ℕ) C) (less : C → C → Bool) (root : List ℕ) (known : Option Status) → IsProp (Agrees p m less root known)
+agrees_prop set p m less root known = hlevel (props, set, remembers_prop)
 
 -- 12: not at a choice node; then 13: an alternative above 1
 abbrev pub choice_answer : Status → ℕ → Result (ℕ × ℕ) Refusal

@@ -1,24 +1,24 @@
-use Rattle.std.specs.Prelude.{◌≡◌, ℕ, ◌+◌, ◌-◌, ◌^◌, ◌<◌, ◌≤◌, Bool, true, false, cond, List, length, take, replicate, Some, None, Ok, Err, Option, Result, ◌==◌, nat_le, nat_lt, slice_index, slice_set, refl}
+use Rattle.std.specs.Option.{is_some}
+use Rattle.std.specs.Prelude.{◌≡◌, ℕ, ◌+◌, ◌-◌, ◌^◌, ◌<◌, ◌≤◌, Bool, true, false, cond, List, length, take, replicate, Some, None, Ok, Err, Option, Result, nat_le, nat_lt, slice_index, slice_set, refl}
 use Rattle.std.proofs.Common.{sym, ◌∙◌, inl, inr, arith}
-use Rattle.std.proofs.Math.Path.{ap, subst}
+use Rattle.std.proofs.Math.Path.{ap}
 use Rattle.std.proofs.Math.Seq.{take-set-lt}
 use Rattle.std.proofs.lemmas.List.{ext_get_or, get_or_append_left, get_or-append-add, get_or_past, get_or-replicate, get_or-set_same, get_or-set_other, get_or-take, length-append, length-replicate, length-set, length-take}
-use Rattle.std.proofs.lemmas.Bool.{both_ways, cases_eq, cases_lt, eq-eqb, ne_eqb, leb-true, le-leb, lt-leb, le-ltb, lt-ltb}
+use Rattle.std.proofs.lemmas.Bool.{both_ways, cases_eq, cases_lt, leb-true, lt-ltb}
 use Rattle.trees.specs.declared.Status.{Status}
 use Rattle.trees.specs.declared.Status.TheVariants.{Failed, Solved, Choice}
 use Rattle.words.specs.Words.{Proper}
-use Rattle.nodes.specs.Choosing.{status, chosen, smallest, empty_below, fewest}
+use Rattle.nodes.specs.Choosing.{status}
 use Rattle.nodes.proofs.Chosen.{choice_is}
 use Rattle.propagation.specs.Networks.{Network, Supported}
 use Rattle.propagation.specs.Closing.{closure}
 use Rattle.problems.specs.Problems.{narrowed, proper, step, tree_of}
 use Rattle.problems.proofs.Laws.{proper_is, is_proper}
 use Rattle.space.specs.declared.refusal.Refusal.{Refusal}
-use Rattle.space.specs.declared.refusal.Refusal.TheVariants.{Allowance, Bound, NotChoice, Alternative, Word}
-use Rattle.space.specs.Meaning.{Meaning, is_choice, is_failed}
+use Rattle.space.specs.declared.refusal.Refusal.TheVariants.{Alternative, Word}
+use Rattle.space.specs.Meaning.{Meaning, moved}
 use Rattle.space.specs.Laws.{Lawful, NamedByWords}
-use Rattle.space.specs.Calls.{Commits, Loaded, Redoes}
-use Rattle.space.proofs.Steps.{commit_refused, commit_taken, redo_refused, redo_taken}
+use Rattle.space.specs.Calls.{Loaded}
 use Rattle.bare.specs.Bares.{Agrees, Remembers, bare_meaning, choice_answer, padded}
 
 -- ---- what a choice tells
@@ -32,49 +32,7 @@ choice_taken (Choice d) a c h = tested (nat_le a 1) h refl
     tested true e q = (let f : d ≡ c = cc in ap Choice f, leb-true a 1 q)
     tested false e q = let z : ◌≡◌ {A = ℕ} 0 1 = cc in absurd (omega arith)
 
-pub choice_refused : (s : Status) (a : ℕ) (e : Refusal) (x : Result (Unit {0}) Refusal) → ◌≡◌ {A = Result (ℕ × ℕ) Refusal} (Err e) (choice_answer s a) → Err e ≡ cond (is_choice s) (cond (nat_le a 1) x (Err Alternative)) (Err NotChoice)
-choice_refused Failed a e x h = cc
-choice_refused Solved a e x h = cc
-choice_refused (Choice d) a e x h = tested (nat_le a 1) h
-  where
-    tested : (b : Bool) → ◌≡◌ {A = Result (ℕ × ℕ) Refusal} (Err e) (cond b (Ok d) (Err Alternative)) → Err e ≡ cond b x (Err Alternative)
-    tested true q = let z : ◌≡◌ {A = ℕ} 0 1 = cc in absurd (omega arith)
-    tested false q = cc
-
-pub choice_passed : (s : Status) (a : ℕ) (c : ℕ × ℕ) (x : Result (Unit {0}) Refusal) → Ok c ≡ choice_answer s a → cond (is_choice s) (cond (nat_le a 1) x (Err Alternative)) (Err NotChoice) ≡ x
-choice_passed Failed a c x h = let z : ◌≡◌ {A = ℕ} 0 1 = cc in absurd (omega arith)
-choice_passed Solved a c x h = let z : ◌≡◌ {A = ℕ} 0 1 = cc in absurd (omega arith)
-choice_passed (Choice d) a c x h = tested (nat_le a 1) h
-  where
-    tested : (b : Bool) → Ok c ≡ cond b (Ok d) (Err Alternative) → cond b x (Err Alternative) ≡ x
-    tested true e = refl
-    tested false e = let z : ◌≡◌ {A = ℕ} 0 1 = cc in absurd (omega arith)
-
--- ---- a failed node is one with an empty word
-
-failed_by : (b d : Bool) (c : ℕ × ℕ) → is_failed (cond b Failed (cond d Solved (Choice c))) ≡ b
-failed_by true d c = refl
-failed_by false true c = refl
-failed_by false false c = refl
-
-pub failed_test : (w : ℕ) (n : List ℕ) → is_failed (status w n) ≡ empty_below w n
-failed_test w n = failed_by (empty_below w n) (fewest n w == 33) (chosen n w, smallest w n)
-
-pub bound_some : {C : Type 0} (f b : Bool) (x y : C) → f ≡ b → Some x ≡ cond b None (Some y) → ◌≡◌ {A = Result C Refusal} (Ok x) (cond f (Err Bound) (Ok y))
-bound_some f true x y q h = let z : ◌≡◌ {A = ℕ} 0 1 = cc in absurd (omega arith)
-bound_some f false x y q h = let k : x ≡ y = cc in rw (q, k) refl
-
-pub bound_none : {C : Type 0} (f b : Bool) (y : C) → f ≡ b → None ≡ cond b None (Some y) → ◌≡◌ {A = Result C Refusal} (Err Bound) (cond f (Err Bound) (Ok y))
-bound_none f true y q h = rw q refl
-bound_none f false y q h = let z : ◌≡◌ {A = ℕ} 0 1 = cc in absurd (omega arith)
-
 -- ---- nodes and their words
-
-pub word_there : (w i x : ℕ) (n : List ℕ) → i < w → x ≡ slice_index n i → ◌≡◌ {A = Result ℕ Refusal} (Ok x) (cond (nat_lt i w) (Ok (slice_index (take w n) i)) (Err Word))
-word_there w i x n h e = let t = lt-ltb i w h in let k = e ∙ sym (get_or-take w n i 0 h) in rw (t, k) refl
-
-pub word_past : {A : Type 0} (w i : ℕ) (y : Result A Refusal) → w ≤ i → Err Word ≡ cond (nat_lt i w) y (Err Word)
-word_past w i y h = let t = le-ltb i w h in rw t refl
 
 pub word_set : (w i : ℕ) → i < w → ◌≡◌ {A = Result (Unit {0}) Refusal} (Ok tt) (cond (nat_lt i w) (Ok tt) (Err Word))
 word_set w i h = let t = lt-ltb i w h in rw t refl
@@ -108,12 +66,17 @@ module _ (w : ℕ) (high : w ≤ 32) where
     clear = λ j g. (get_or-set_other n i j x 0 (λ e. omega arith) ∙ pr.clear j g);
   }
 
+-- a remembered status tells that the node is closed
+pub is_closed : (p : Network) (n : List ℕ) (known : Option Status) (b : Bool) → b ≡ is_some known → Remembers known p n → b ≡ true → Supported p n
+is_closed p n None b e r h = absurd (both_ways b e h)
+is_closed p n (Some s) b e r h = r.1
+
 module _ {C : Type 0} (p : Network) (start : List ℕ) (bound cost : List ℕ → C) where
   abbrev at : List ℕ → ℕ → Meaning (List ℕ) C
   at n allowance = bare_meaning p start bound cost n allowance
 
-  pub lawful : {less : C → C → Bool} (root n : List ℕ) (allowance : ℕ) (known : Option Status) (closed : Bool) → Agrees p (at n allowance) less root known closed → Lawful (at n allowance) less
-  lawful root n allowance known closed s = record {
+  pub lawful : {less : C → C → Bool} (root n : List ℕ) (allowance : ℕ) (known : Option Status) → Agrees p (at n allowance) less root known → Lawful (at n allowance) less
+  lawful root n allowance known s = record {
     orderly = s.orderly;
     priced = s.priced;
     current = s.here;
@@ -126,13 +89,13 @@ module _ {C : Type 0} (p : Network) (start : List ℕ) (bound cost : List ℕ �
     layer = omega arith;
   }
 
-  pub named : {less : C → C → Bool} (root n : List ℕ) (allowance : ℕ) (known : Option Status) (closed : Bool) → Agrees p (at n allowance) less root known closed → NamedByWords (tree_of p start bound) padded
-  named root n allowance known closed s m h = padded_words p.width s.high m (proper_is p.width m h)
+  pub named : {less : C → C → Bool} (root n : List ℕ) (allowance : ℕ) (known : Option Status) → Agrees p (at n allowance) less root known → NamedByWords (tree_of p start bound) padded
+  named root n allowance known s m h = padded_words p.width s.high m (proper_is p.width m h)
 
   -- word i set
-  pub loaded : {less : C → C → Bool} (root n : List ℕ) (allowance i x : ℕ) (known : Option Status) (closed : Bool) → Agrees p (at n allowance) less root known closed → i < p.width → x < 2 ^ 32
-      → Loaded (at n allowance) i x (at (slice_set n i x) allowance) × Agrees p (at (slice_set n i x) allowance) less root None false
-  loaded root n allowance i x known closed s h small =
+  pub loaded : {less : C → C → Bool} (root n : List ℕ) (allowance i x : ℕ) (known : Option Status) → Agrees p (at n allowance) less root known → i < p.width → x < 2 ^ 32
+      → Loaded (at n allowance) i x (at (slice_set n i x) allowance) × Agrees p (at (slice_set n i x) allowance) less root None
+  loaded root n allowance i x known s h small =
       let pr = proper_is p.width n s.here in
       let ps = set_proper p.width s.high n i x pr h small in
       let t = take-set-lt p.width n i x h in (
@@ -150,74 +113,28 @@ module _ {C : Type 0} (p : Network) (start : List ℕ) (bound cost : List ℕ �
           here = is_proper p.width (slice_set n i x) ps;
           remembered = tt;
           most = s.most;
-          root_closed = s.root_closed;
-          here_closed = λ e. absurd (both_ways false refl e);
+          closed = s.closed;
         },
       )
 
   -- the child at the choice
-  pub stepped : {less : C → C → Bool} (root n m : List ℕ) (allowance less_allowance a : ℕ) (known k : Option Status) (closed : Bool) (c : ℕ × ℕ) → Agrees p (at n allowance) less root known closed
-      → status p.width n ≡ Choice c → a ≤ 1 → m ≡ closure p (narrowed n c.0 c.1 a) → Supported p m → k ≡ Some (status p.width m) → less_allowance ≤ allowance
-      → (m ≡ step p n a) × Agrees p (at m less_allowance) less root k true
+  pub stepped : {less : C → C → Bool} (root n m : List ℕ) (allowance a : ℕ) (known : Option Status) (k : Status) (c : ℕ × ℕ) → Agrees p (at n allowance) less root known
+      → Ok c ≡ choice_answer (status p.width n) a → m ≡ closure p (narrowed n c.0 c.1 a) → Supported p m → k ≡ status p.width m
+      → (at m allowance ≡ moved (at n allowance) a) × Agrees p (at m allowance) less root (Some k)
   unfolding step
-  stepped root n m allowance less_allowance a known k closed c s e l q sup r f =
-      let is = choice_is p.width n c e in
-      let g : m ≡ step p n a = q ∙ ap (λ (d : ℕ × ℕ). closure p (narrowed n d.0 d.1 a)) is in
-      let proper-child = s.orderly.step_proper n a s.here (c, e) l in
-      let P : Option Status → Type 0 = (λ o. Remembers o (status p.width m)) in (
-        g,
+  stepped root n m allowance a known k c s h q sup r =
+      let o = choice_taken (status p.width n) a c h in
+      let g : m ≡ step p n a = q ∙ ap (λ (d : ℕ × ℕ). closure p (narrowed n d.0 d.1 a)) (choice_is p.width n c o.0) in (
+        ap (λ (l : List ℕ). at l allowance) g,
         record {
           orderly = s.orderly;
           priced = s.priced;
           low = s.low;
           high = s.high;
           kept = s.kept;
-          here = ap (proper p.width) g ∙ proper-child;
-          remembered = subst P (sym r) refl;
-          most = omega (arith, s.most);
-          root_closed = s.root_closed;
-          here_closed = λ _. sup;
+          here = ap (proper p.width) g ∙ s.orderly.step_proper n a s.here (c, o.0) o.1;
+          remembered = (r, sup);
+          most = s.most;
+          closed = s.closed;
         },
       )
-
-  -- a commit: refused for the choice or the alternative, refused for the allowance, or done
-  pub commit_not : (n : List ℕ) (allowance a : ℕ) (e : Refusal) → ◌≡◌ {A = Result (ℕ × ℕ) Refusal} (Err e) (choice_answer (status p.width n) a)
-      → Commits (at n allowance) a (Err e) (at n allowance)
-  commit_not n allowance a e h = commit_refused (at n allowance) a e (choice_refused (status p.width n) a e (cond (allowance == 0) (Err (Allowance 0)) (Ok tt)) h)
-
-  pub commit_none : (n : List ℕ) (allowance a : ℕ) (c : ℕ × ℕ) → Ok c ≡ choice_answer (status p.width n) a → allowance ≡ 0
-      → Commits (at n allowance) a (Err (Allowance 0)) (at n allowance)
-  commit_none n allowance a c h z =
-      let t = eq-eqb allowance 0 z in
-      let x : ◌≡◌ {A = Result (Unit {0}) Refusal} (cond (allowance == 0) (Err (Allowance 0)) (Ok tt)) (Err (Allowance 0)) = rw t refl in
-      commit_refused (at n allowance) a (Allowance 0) (sym (choice_passed (status p.width n) a c (cond (allowance == 0) (Err (Allowance 0)) (Ok tt)) h ∙ x))
-
-  pub commit_done : {less : C → C → Bool} (root n m : List ℕ) (allowance a : ℕ) (known k : Option Status) (closed : Bool) (c : ℕ × ℕ) → Agrees p (at n allowance) less root known closed
-      → Ok c ≡ choice_answer (status p.width n) a → 0 < allowance → m ≡ closure p (narrowed n c.0 c.1 a) → Supported p m → k ≡ Some (status p.width m)
-      → Commits (at n allowance) a (Ok tt) (at m (allowance - 1)) × Agrees p (at m (allowance - 1)) less root k true
-  commit_done root n m allowance a known k closed c s h z q sup r =
-      let t = ne_eqb allowance 0 (λ e. omega arith) in
-      let x : ◌≡◌ {A = Result (Unit {0}) Refusal} (cond (allowance == 0) (Err (Allowance 0)) (Ok tt)) (Ok tt) = rw t refl in
-      let o = choice_taken (status p.width n) a c h in
-      let y = stepped root n m allowance (allowance - 1) a known k closed c s o.0 o.1 q sup r (omega arith) in
-      (commit_taken (at n allowance) (at m (allowance - 1)) a (sym (choice_passed (status p.width n) a c (cond (allowance == 0) (Err (Allowance 0)) (Ok tt)) h ∙ x)) (ap (λ (l : List ℕ). at l (allowance - 1)) y.0), y.1)
-
-  pub redo_not : (n : List ℕ) (allowance a : ℕ) (e : Refusal) → ◌≡◌ {A = Result (ℕ × ℕ) Refusal} (Err e) (choice_answer (status p.width n) a)
-      → Redoes (at n allowance) a (Err e) (at n allowance)
-  redo_not n allowance a e h = redo_refused (at n allowance) a e (choice_refused (status p.width n) a e (Ok tt) h)
-
-  pub redo_done : {less : C → C → Bool} (root n m : List ℕ) (allowance a : ℕ) (known k : Option Status) (closed : Bool) (c : ℕ × ℕ) → Agrees p (at n allowance) less root known closed
-      → Ok c ≡ choice_answer (status p.width n) a → m ≡ closure p (narrowed n c.0 c.1 a) → Supported p m → k ≡ Some (status p.width m)
-      → Redoes (at n allowance) a (Ok tt) (at m allowance) × Agrees p (at m allowance) less root k true
-  redo_done root n m allowance a known k closed c s h q sup r =
-      let o = choice_taken (status p.width n) a c h in
-      let y = stepped root n m allowance allowance a known k closed c s o.0 o.1 q sup r (omega arith) in
-      (redo_taken (at n allowance) (at m allowance) a (sym (choice_passed (status p.width n) a c (Ok tt) h)) (ap (λ (l : List ℕ). at l allowance) y.0), y.1)
-
--- ---- the alternative is tested after the status
-
-pub alternative_refused : (s : Status) (a : ℕ) (c : ℕ × ℕ) → s ≡ Choice c → 1 < a → ◌≡◌ {A = Result (ℕ × ℕ) Refusal} (Err Alternative) (choice_answer s a)
-alternative_refused s a c e h = let t = lt-leb a 1 h in rw (e, t) refl
-
-pub alternative_taken : (s : Status) (a : ℕ) (c : ℕ × ℕ) → s ≡ Choice c → a ≤ 1 → Ok c ≡ choice_answer s a
-alternative_taken s a c e h = let t = le-leb a 1 h in rw (e, t) refl

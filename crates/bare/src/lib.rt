@@ -1,14 +1,14 @@
 //! The bare space: a problem's tree and one node of it.
 #![tactic(auto)]
 
-ghost use Rattle.std.specs.Prelude.{◌≡◌, ℕ, ◌≤◌, min, Bool, List};
-ghost use Rattle.nodes.specs.Choosing.{status};
+ghost use Rattle.std.specs.Prelude.{◌≡◌, ℕ, ◌≤◌, min, Bool, List, Ok};
+ghost use Rattle.std.proofs.Props.{props};
 ghost use Rattle.propagation.specs.Closing.{closure};
 ghost use Rattle.problems.specs.Problems.{LeavesSolve, Priced};
-ghost use Rattle.bare.specs.Bares.{Agrees, bare_meaning, choice_answer, limit, padded};
+ghost use Rattle.space.specs.Meaning.{status_now, moved};
+ghost use Rattle.bare.specs.Bares.{Agrees, agrees_prop, bare_meaning, choice_answer, limit, padded};
 ghost use Rattle.bare.specs.Steps;
 
-use nodes::choosing;
 use nodes::node::Node;
 use problems::{Problem, child_within, root};
 use space::refusal::Refusal;
@@ -24,37 +24,34 @@ pub struct Bare<P: Problem> {
     problem: P,
     root: Node,
     current: Node,
-    // the status of the current node, unless a word was set since it was looked for
+    // the status of the current node, while that is known to be a closed one
     known: Option<Status>,
-    // whether every constraint is known to support every value of the current node
-    closed: bool,
     allowance: u64,
+    ghost agrees: { Agrees (P.Constraints.network problem) (bare_meaning (P.Constraints.network problem) (P.Problem.start problem) (P.Problem.bound problem) (P.Problem.cost problem) current.words allowance) P.Problem.less root.words known } by { agrees_prop P.Problem.costs _ _ _ _ _ },
 }
 
 impl<P: Problem> Bare<P> {
     /// A space at the root of a problem's tree; an allowance above 1,000,000,000,000 counts as that.
     /// The solved leaves of the tree are the problem's solutions, each at just one leaf.
     pub fn new(problem: P, allowance: u64) -> Bare<P>
-        ensures means { bare_meaning (P.Constraints.network result.problem) (P.Problem.start result.problem) (P.Problem.bound result.problem) (P.Problem.cost result.problem) result.current.words result.allowance ≡ bare_meaning (P.Constraints.network problem) (P.Problem.start problem) (P.Problem.bound problem) (P.Problem.cost problem) (closure (P.Constraints.network problem) (P.Problem.start problem)) (min allowance limit) }
-        ensures sound { Agrees (P.Constraints.network result.problem) (bare_meaning (P.Constraints.network result.problem) (P.Problem.start result.problem) (P.Problem.bound result.problem) (P.Problem.cost result.problem) result.current.words result.allowance) P.Problem.less result.root.words result.known result.closed }
+        ensures means { ⟦<Bare<P> as Space>⟧.meaning result ≡ bare_meaning (P.Constraints.network problem) (P.Problem.start problem) (P.Problem.bound problem) (P.Problem.cost problem) (closure (P.Constraints.network problem) (P.Problem.start problem)) (min allowance limit) }
         ensures leaves { LeavesSolve (P.Constraints.network problem) (P.Problem.start problem) (P.Problem.bound problem) }
         ensures priced { Priced (P.Constraints.network problem).width (P.Problem.bound problem) (P.Problem.cost problem) P.Problem.less }
     {
         let root = root(&problem);
-        let known = Some(choosing::status(&root, problem.width()));
+        let known = Some(root.status(problem.width()));
         Bare {
             problem,
             root,
             current: root,
             known,
-            closed: true,
             allowance: allowance.min(LIMIT),
         }
     }
 
     /// The choice of the current node, if it is a choice node and the alternative one of its two; 12 or 13.
     fn choice(&self, alternative: u8) -> Result<(u8, u8), Refusal>
-        ensures { Agrees (P.Constraints.network self.now.problem) (bare_meaning (P.Constraints.network self.now.problem) (P.Problem.start self.now.problem) (P.Problem.bound self.now.problem) (P.Problem.cost self.now.problem) self.now.current.words self.now.allowance) P.Problem.less self.now.root.words self.now.known self.now.closed → result ≡ choice_answer (status (P.Constraints.network self.now.problem).width self.now.current.words) alternative }
+        ensures { result ≡ choice_answer (status_now (⟦<Bare<P> as Space>⟧.meaning self.now)) alternative }
     {
         let Status::Choice(choice) = self.status() else {
             return Err(Refusal::NotChoice);
@@ -64,6 +61,16 @@ impl<P: Problem> Bare<P> {
         }
         Ok(choice)
     }
+
+    /// Steps to the child at the choice of the current node.
+    fn step(&mut self, choice: (u8, u8), alternative: u8)
+        requires { Ok choice ≡ choice_answer (status_now (⟦<Bare<P> as Space>⟧.meaning self.old)) alternative }
+        ensures { ⟦<Bare<P> as Space>⟧.meaning self.new ≡ moved (⟦<Bare<P> as Space>⟧.meaning self.old) alternative }
+    {
+        let closed = self.known.is_some();
+        self.current = child_within(&self.problem, self.current, choice, alternative, closed);
+        self.known = Some(self.current.status(self.problem.width()));
+    }
 }
 
 impl<P: Problem> Space for Bare<P> {
@@ -71,28 +78,23 @@ impl<P: Problem> Space for Bare<P> {
 
     ghost Place = { List ℕ };
 
+    ghost places = { Prim.hlevel props };
+
     ghost meaning = { λ s. bare_meaning (P.Constraints.network s.problem) (P.Problem.start s.problem) (P.Problem.bound s.problem) (P.Problem.cost s.problem) s.current.words s.allowance };
 
     ghost less = { P.Problem.less };
 
     ghost named = { padded };
 
-    ghost sound = { λ s. Agrees (P.Constraints.network s.problem) (bare_meaning (P.Constraints.network s.problem) (P.Problem.start s.problem) (P.Problem.bound s.problem) (P.Problem.cost s.problem) s.current.words s.allowance) P.Problem.less s.root.words s.known s.closed };
-
-    ghost lawful = { λ s w. Steps.lawful (P.Constraints.network s.problem) (P.Problem.start s.problem) (P.Problem.bound s.problem) (P.Problem.cost s.problem) s.root.words s.current.words s.allowance s.known s.closed w };
+    ghost lawful = { λ s. Steps.lawful (P.Constraints.network s.problem) (P.Problem.start s.problem) (P.Problem.bound s.problem) (P.Problem.cost s.problem) s.root.words s.current.words s.allowance s.known s.agrees };
 
     fn status(&self) -> Status {
-        match self.known {
-            Some(status) => status,
-            None => choosing::status(&self.current, self.problem.width()),
-        }
+        self.known
+            .unwrap_or_else(|| self.current.status(self.problem.width()))
     }
 
     fn bound(&self) -> Result<P::Cost, Refusal> {
-        match self.problem.bound(&self.current) {
-            Some(bound) => Ok(bound),
-            None => Err(Refusal::Bound),
-        }
+        self.problem.bound(&self.current).ok_or(Refusal::Bound)
     }
 
     fn less(a: P::Cost, b: P::Cost) -> bool {
@@ -128,40 +130,18 @@ impl<P: Problem> Space for Bare<P> {
     }
 
     fn commit(&mut self, alternative: u8) -> Result<(), Refusal> {
-        let choice = match self.choice(alternative) {
-            Ok(choice) => choice,
-            Err(refusal) => return Err(refusal),
-        };
+        let choice = self.choice(alternative)?;
         if self.allowance == 0 {
             return Err(Refusal::Allowance(0));
         }
-        self.current = child_within(
-            &self.problem,
-            self.current,
-            choice,
-            alternative,
-            self.closed,
-        );
-        self.known = Some(choosing::status(&self.current, self.problem.width()));
-        self.closed = true;
+        self.step(choice, alternative);
         self.allowance -= 1;
         Ok(())
     }
 
     fn redo(&mut self, alternative: u8) -> Result<(), Refusal> {
-        let choice = match self.choice(alternative) {
-            Ok(choice) => choice,
-            Err(refusal) => return Err(refusal),
-        };
-        self.current = child_within(
-            &self.problem,
-            self.current,
-            choice,
-            alternative,
-            self.closed,
-        );
-        self.known = Some(choosing::status(&self.current, self.problem.width()));
-        self.closed = true;
+        let choice = self.choice(alternative)?;
+        self.step(choice, alternative);
         Ok(())
     }
 
@@ -179,13 +159,12 @@ impl<P: Problem> Space for Bare<P> {
 
     fn reset(&mut self) {
         self.current = self.root;
-        self.known = Some(choosing::status(&self.root, self.problem.width()));
-        self.closed = true;
+        self.known = Some(self.root.status(self.problem.width()));
     }
 }
 
 impl<P: Problem> Loadable for Bare<P> {
-    ghost only = { λ s w. Steps.named _ _ _ (P.Problem.cost s.problem) _ _ _ _ _ w };
+    ghost only = { λ s. Steps.named _ _ _ (P.Problem.cost s.problem) _ _ _ _ s.agrees };
 
     fn set(&mut self, i: u8, word: u32) -> Result<(), Refusal> {
         if (i as usize) >= self.problem.width() {
@@ -193,7 +172,6 @@ impl<P: Problem> Loadable for Bare<P> {
         }
         self.current.words[i as usize] = word;
         self.known = None;
-        self.closed = false;
         Ok(())
     }
 }

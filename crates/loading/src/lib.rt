@@ -9,11 +9,11 @@ use space::{Loadable, Space};
 
 /// The current node as one value: its words, up to the width.
 pub fn copy_out<S: Space>(space: &S) -> Node
-    ensures { S.Space.sound space.now → take (S.Space.meaning space.now).width result.words ≡ words_now (S.Space.meaning space.now) }
+    ensures { take (S.Space.meaning space.now).width result.words ≡ words_now (S.Space.meaning space.now) }
 {
     let mut words = [0; 32];
-    let width = space.width();
-    for i in 0..width {
+    // i is the number by which a space is asked for a word, which it has
+    for i in 0..space.width() {
         let Ok(word) = space.word(i) else {
             continue;
         };
@@ -24,11 +24,10 @@ pub fn copy_out<S: Space>(space: &S) -> Node
 
 /// Makes the node with these words current, word by word.
 pub fn load<S: Loadable>(space: &mut S, node: Node)
-    ensures means { S.Space.sound space.old → (S.Space.meaning space.new ≡ placed (S.Space.meaning space.old) (S.Space.named (take (S.Space.meaning space.old).width node.words)) (S.Space.meaning space.old).held) × S.Space.sound space.new }
-    ensures spends { (S.Space.meaning space.new).allowance ≤ (S.Space.meaning space.old).allowance }
+    ensures { S.Space.meaning space.new ≡ placed (S.Space.meaning space.old) (S.Space.named (take (S.Space.meaning space.old).width node.words)) (S.Space.meaning space.old).held }
 {
-    let width = space.width();
-    for i in 0..width {
+    // i is the number by which a space is told to set a word
+    for i in 0..space.width() {
         let _ = space.set(i, node.words[i as usize]);
     }
 }

@@ -1,13 +1,14 @@
-use Rattle.std.proofs.Common.{◌≡◌, ℕ, zero, suc, ◌+◌, ◌^◌, ◌<◌, ◌≤◌, Bool, true, false, cond, eqb, ltb, ◌⊎◌, List, length, get_or, sym, refl, ap, ◌∙◌, subst, inl, inr, add-one, arith}
+use Rattle.std.proofs.Common.{◌≡◌, ℕ, zero, suc, ◌^◌, ◌<◌, ◌≤◌, Bool, true, false, cond, eqb, ltb, ◌⊎◌, List, length, take, get_or, sym, refl, ap, ◌∙◌, subst, inl, inr, arith}
 use lib.Count.{ones, count_trailing_zeros}
-use Rattle.std.proofs.lemmas.Bool.{cases_eq, and_parts, and_cases, and_from, and_left, and_right, ltb-true, ltb-false, lt-ltb, le-ltb, eqb-true, eqb-false, eq-eqb, ne_eqb, cond_both, cond-true, cond-false}
+use Rattle.std.proofs.lemmas.List.{get_or-take, length-take}
+use Rattle.std.proofs.lemmas.Bool.{cases_eq, cases_lt, and_parts, and_cases, ltb-true, ltb-false, eqb-true, eqb-false, eq-eqb, ne_eqb, cond_both, cond-true, cond-false}
 use Rattle.trees.specs.declared.Status.{Status}
 use Rattle.trees.specs.declared.Status.TheVariants.{Failed, Solved, Choice}
 use Rattle.words.specs.Words.{Fit, Lowest}
-use Rattle.nodes.specs.Choosing.{Filled, Empty, Chosen, Says, empty_below, better, fewest, chosen, smallest, status, rest, reach}
+use Rattle.nodes.specs.Choosing.{Filled, Empty, Chosen, Says, empty_below, better, fewest, chosen, smallest, status}
 use Rattle.words.proofs.Bit.{is_lowest}
 use Rattle.nodes.proofs.Emptiness.{empty_from, empty_some, filled_none, none_filled}
-use Rattle.nodes.proofs.Counts.{ones_most, ones_pow, ones_none, filled_ones, one_value, within, rest_pos, reach_pos}
+use Rattle.nodes.proofs.Counts.{ones_most, ones_pow, ones_none, filled_ones, one_value}
 
 -- ---- the first k words, with the fewest values f, but more than one, at c
 
@@ -54,34 +55,7 @@ picked n (suc k) = picked_step n k (fewest n k) (chosen n k) (better n k (fewest
 
 -- ---- one turn of the loop
 
-pub fewest_none : (n : List ℕ) → (fewest n 0 ≡ 33) × (chosen n 0 ≡ 0)
-unfolding fewest chosen
-fewest_none n = (refl, refl)
-
-pub turn_new : (n : List ℕ) (k f : ℕ) → f ≡ fewest n k → 1 < ones (get_or n k 0) → ones (get_or n k 0) < f → (fewest n (k + 1) ≡ ones (get_or n k 0)) × (chosen n (k + 1) ≡ k)
-unfolding fewest chosen
-turn_new n k f e h l =
-    let b : better n k (fewest n k) ≡ true = and_from _ _ (lt-ltb 1 _ h) (lt-ltb _ (fewest n k) (omega arith)) in
-    rw add-one (cond-true (better n k (fewest n k)) _ _ b, cond-true (better n k (fewest n k)) _ _ b)
-
-turn_old : (n : List ℕ) (k : ℕ) → better n k (fewest n k) ≡ false → (fewest n (k + 1) ≡ fewest n k) × (chosen n (k + 1) ≡ chosen n k)
-unfolding fewest chosen
-turn_old n k b = rw add-one (cond-false (better n k (fewest n k)) _ _ b, cond-false (better n k (fewest n k)) _ _ b)
-
-pub turn_one : (n : List ℕ) (k : ℕ) → ones (get_or n k 0) ≤ 1 → (fewest n (k + 1) ≡ fewest n k) × (chosen n (k + 1) ≡ chosen n k)
-turn_one n k h = turn_old n k (and_left _ _ (le-ltb 1 _ h))
-
-pub turn_many : (n : List ℕ) (k f : ℕ) → f ≡ fewest n k → f ≤ ones (get_or n k 0) → (fewest n (k + 1) ≡ fewest n k) × (chosen n (k + 1) ≡ chosen n k)
-turn_many n k f e h = turn_old n k (and_right _ _ (le-ltb _ (fewest n k) (omega arith)))
-
--- the words below k + 1, one more than those below k
-pub small_more : (n : List ℕ) (k : ℕ) → ((j : ℕ) → j < k → get_or n j 0 < 2 ^ 32) → get_or n k 0 < 2 ^ 32 → (j : ℕ) → j < k + 1 → get_or n j 0 < 2 ^ 32
-small_more n k s h j l = elim (cases_eq j k) [ inl e ↦ omega (arith, ap (λ (i : ℕ). get_or n i 0) e) | inr ne ↦ s j (omega arith) ]
-
 -- ---- what the status says
-
-pub chosen_below : (n : List ℕ) (k : ℕ) → (fewest n k ≡ 33 → ⊥) → chosen n k < k
-chosen_below n k ne = elim (picked n k).place [ inl e ↦ absurd (ne e) | inr q ↦ q.0 ]
 
 pub is_chosen : (w : ℕ) (n : List ℕ) → ((j : ℕ) → j < w → get_or n j 0 < 2 ^ 32) → Filled w n → (fewest n w ≡ 33 → ⊥) → Chosen w n (chosen n w) (smallest w n)
 is_chosen w n s l ne =
@@ -161,31 +135,66 @@ pow_solved w n p = ones_solved w n (λ i l. ap ones (p i l).1 ∙ ones_pow (p i 
 pub lowest_same : (w u v : ℕ) → Lowest w u → Lowest w v → u ≡ v
 lowest_same w u v a b = omega (arith, a.least v b.there, b.least u a.there)
 
--- the chosen variable with the smallest value of its word is the choice
-pub chosen_same : (w : ℕ) (n : List ℕ) (x v : ℕ) → ((j : ℕ) → j < w → get_or n j 0 < 2 ^ 32) → Filled w n → (fewest n w ≡ 33 → ⊥) → x ≡ chosen n w → Lowest (get_or n x 0) v
-    → (Choice (x, v) ≡ status w n) × Chosen w n x v
-chosen_same w n x v s l ne e lo =
-    let c = is_chosen w n s l ne in
-    let lo' : Lowest (get_or n (chosen n w) 0) v = (let P : ℕ → Type 0 = (λ i. Lowest (get_or n i 0) v) in subst P e lo) in
-    let d : v ≡ smallest w n = lowest_same (get_or n (chosen n w) 0) v (smallest w n) lo' c.smallest in
-    let P : ℕ → Type 0 = (λ i. Chosen w n i (smallest w n)) in
-    let Q : ℕ → Type 0 = (λ u. Chosen w n x u) in
-    (ap (λ (i : ℕ). Choice (i, v)) e ∙ ap (λ (u : ℕ). Choice (chosen n w, u)) d ∙ sym (status_choice w n l ne), subst Q (sym d) (subst P (sym e) c))
+-- a variable that is chosen, with the smallest value of its word, is the choice
+pub chosen_is : (w : ℕ) (n : List ℕ) (x v : ℕ) → get_or n x 0 < 2 ^ 32 → Filled w n → Chosen w n x v → Choice (x, v) ≡ status w n
+chosen_is w n x v small full c =
+    let p = picked n w in
+    let few : fewest n w ≡ 33 → ⊥ = (λ e. omega (arith, p.bound x c.below c.several, ones_most (get_or n x 0) small)) in
+    let same : x ≡ chosen n w = elim p.place [
+      | inl e ↦ absurd (few e)
+      | inr q ↦ elim (cases_lt x (chosen n w)) [
+        | inl l ↦ absurd (omega (arith, q.3 x l c.several, q.1, c.fewest (chosen n w) q.0 (omega (arith, q.1, q.2))))
+        | inr h ↦ elim (cases_lt (chosen n w) x) [
+          | inl l ↦ absurd (omega (arith, p.bound x c.below c.several, q.1, c.first (chosen n w) l (omega (arith, q.1, q.2))))
+          | inr g ↦ omega arith
+        ]
+      ]
+    ] in
+    let low : v ≡ count_trailing_zeros 32 (get_or n x 0) = lowest_same (get_or n x 0) v _ c.smallest (is_lowest (get_or n x 0) (full x c.below) small) in
+    cc (status_choice w n full few)
 
--- what stands after the loop, where some word has more than one value
-pub after_loop : (n : List ℕ) (w i f x : ℕ) → length n ≡ 32 → false ≡ empty_below w n → i ≤ w → w ≤ i → f ≡ fewest n i → x ≡ chosen n i → (f ≡ 33 → ⊥)
-    → (x < 32) × (x ≡ chosen n w) × (fewest n w ≡ 33 → ⊥) × (x < w)
-after_loop n w i f x long g h k e d ne =
-    let s : i ≡ w = omega arith in
-    let many : fewest n w ≡ 33 → ⊥ = (λ z. ne (e ∙ ap (fewest n) s ∙ z)) in
-    let at : x ≡ chosen n w = d ∙ ap (chosen n) s in
-    let b : x < w = omega (arith, at, chosen_below n w many) in
-    (within w n x long g b, at, many, b)
+-- none of the first k words has several values
+abbrev pub NoneBelow : List ℕ → ℕ → Type 0
+NoneBelow ws k = (j : ℕ) → j < k → ones (get_or ws j 0) ≤ 1
 
--- ---- what is open at a choice
+-- of the first k words, word x is the first with the fewest values, but more than one
+pub record BestBelow (ws : List ℕ) (k count x word : ℕ) : Type 0 where
+  pub below : x < k
+  pub is : word ≡ get_or ws x 0
+  pub small : word < 2 ^ 32
+  pub counted : count ≡ ones word
+  pub several : 1 < count
+  pub fewest : (j : ℕ) → j < k → 1 < ones (get_or ws j 0) → count ≤ ones (get_or ws j 0)
+  pub first : (j : ℕ) → j < x → 1 < ones (get_or ws j 0) → count < ones (get_or ws j 0)
 
-pub choice_rest : (w : ℕ) (n : List ℕ) (c : ℕ × ℕ) → Fit n → status w n ≡ Choice c → 0 < rest w n
-choice_rest w n c f e = let s = choice_chosen w n c f e in rest_pos w n s.0 c.0 s.1.below s.1.several
+-- what the loop over the words in use ends with
+module _ (w : ℕ) (n ws : List ℕ) (thirty_two : length n ≡ 32) (high : w ≤ 32) (e : ws ≡ take w n) (f : empty_below w n ≡ false) where
+  full : Filled w n
+  full = none_filled w n f
 
-pub choice_reach : (w : ℕ) (n : List ℕ) (c : ℕ × ℕ) → Fit n → status w n ≡ Choice c → 0 < reach w n
-choice_reach w n c f e = let s = choice_chosen w n c f e in reach_pos w n s.0 c.0 s.1.below s.1.several
+  long : length ws ≡ w
+  long = ap length e ∙ length-take w n ∙ omega arith
+
+  at : (j : ℕ) → j < w → get_or ws j 0 ≡ get_or n j 0
+  at j l = ap (λ (m : List ℕ). get_or m j 0) e ∙ get_or-take w n j 0 l
+
+  pub found : (count x v word : ℕ) → BestBelow ws (length ws) count x word → ((word ≡ 0 → ⊥) → Lowest word v)
+      → (Choice (x, v) ≡ status w n) × (Filled w n × Chosen w n x v)
+  found count x v word b low =
+      let l : x < w = omega (arith, long, b.below) in
+      let this : get_or n x 0 ≡ word = sym (at x l) ∙ sym b.is in
+      let P : ℕ → Type 0 = (λ u. Lowest u v) in
+      let c : Chosen w n x v = record {
+        below = l;
+        several = omega (arith, ap ones this, b.counted, b.several);
+        fewest = λ j k m. omega (arith, ap ones this, b.counted, ap ones (at j k), b.fewest j (omega (arith, long)) (omega (arith, ap ones (at j k))));
+        first = λ j k m. (let h : j < w = omega arith in omega (arith, ap ones this, b.counted, ap ones (at j h), b.first j k (omega (arith, ap ones (at j h)))));
+        smallest = subst P (sym this) (low (λ z. full x l (this ∙ z)));
+      } in
+      (chosen_is w n x v (omega (arith, this, b.small)) full c, (full, c))
+
+  pub all_found : NoneBelow ws (length ws) → (Solved ≡ status w n) × ((i : ℕ) → i < w → ones (get_or n i 0) ≡ 1)
+  all_found none =
+      let one : (i : ℕ) → i < w → ones (get_or n i 0) ≡ 1 =
+      (λ i l. omega (arith, none i (omega (arith, long)), ap ones (at i l), filled_ones w n full i l)) in
+      (sym (ones_solved w n one), one)

@@ -1,8 +1,10 @@
-use Rattle.std.proofs.Common.{◌≡◌, ℕ, zero, suc, ◌+◌, ◌-◌, ◌*◌, ◌^◌, ◌<◌, ◌≤◌, Bool, true, false, cond, ltb, List, length, get_or, sym, refl, ap, ◌∙◌, subst, inl, inr, add-one, arith, pow_pos}
+use Rattle.std.proofs.Common.{◌≡◌, ℕ, zero, suc, ◌+◌, ◌*◌, ◌^◌, ◌<◌, ◌≤◌, Bool, true, false, cond, eqb, ltb, List, length, take, get_or, sym, refl, ap, ◌∙◌, subst, inl, inr, arith, pow_pos}
 use lib.Count.{ones, ones_cat, ones-le, ones-ones, count_trailing_zeros}
-use Rattle.std.proofs.lemmas.Bool.{cases_eq, cases_lt, cases_Bool, both_ways, lt-ltb, le-ltb, cond_both, cond-true, cond-false}
-use Rattle.std.proofs.lemmas.Nat.{pow_below}
-use Rattle.std.proofs.lemmas.List.{get_or_past}
+use Rattle.std.proofs.lemmas.Bool.{or_parts, eqb-false, cases_eq, cases_lt, cases_Bool, both_ways, lt-ltb, le-ltb, cond_both, cond-true, cond-false}
+use Rattle.std.proofs.lemmas.List.{get_or_past, length-take}
+use Rattle.std.specs.List.{sum_by, count_by}
+use Rattle.std.proofs.lemmas.List.Sums.{sum_by-append}
+use Rattle.std.proofs.Math.Seq.{take-suc}
 use Rattle.words.specs.Words.{bit, Inside, Fit}
 use Rattle.nodes.specs.Choosing.{Filled, Empty, empty_below, surplus, wide, rest, reach}
 use Rattle.words.proofs.Bit.{bit_zero, bit_pow_other, trailing_bit, ones_mono, ones_falls}
@@ -16,9 +18,6 @@ ones_none = ones-ones 0
 
 pub ones_pos : (w : ℕ) → (w ≡ 0 → ⊥) → 0 < ones w
 ones_pos w ne = omega (arith, ones_falls 0 w (λ v h. absurd (both_ways (bit 0 v) (bit_zero v) h)) (λ e. ne (sym e)), ones_none)
-
-pub ones_zero : (w : ℕ) → ones w ≡ 0 → w ≡ 0
-ones_zero w e = elim (cases_eq w 0) [ inl z ↦ z | inr ne ↦ absurd (omega (arith, ones_pos w ne)) ]
 
 pub ones_most : (w : ℕ) → w < 2 ^ 32 → ones w ≤ 32
 ones_most w h = ones-le 32 w h
@@ -42,9 +41,6 @@ one_value w h e =
       | inl s ↦ sym s
       | inr ne ↦ absurd (omega (arith, ones_pow v, ones_falls (2 ^ v) w (λ u b. ap (bit w) (pow_value v u b) ∙ there) ne))
     ]
-
-pub trailing_pow : (v : ℕ) → v < 32 → count_trailing_zeros 32 (2 ^ v) ≡ v
-trailing_pow v l = pow_value v (count_trailing_zeros 32 (2 ^ v)) (trailing_bit 32 (2 ^ v) (pow_pos v) (pow_below v 32 l)).1
 
 -- ---- nodes inside one another
 
@@ -109,9 +105,6 @@ count_mono w m n x y s h = elim (cases_Bool (empty_below w m)) [
     | inr g ↦ omega (arith, cond-false (empty_below w m) 0 x f, cond-false (empty_below w n) 0 y g)
   ]
 ]
-
-pub rest_mono : (w : ℕ) (m n : List ℕ) → Inside m n → rest w m ≤ rest w n
-rest_mono w m n s = count_mono w m n (surplus m w) (surplus n w) s (surplus_mono w m n s)
 
 pub reach_mono : (w : ℕ) (m n : List ℕ) → Inside m n → reach w m ≤ reach w n
 reach_mono w m n s = count_mono w m n (wide m w) (wide n w) s (wide_mono w m n s)
@@ -186,24 +179,25 @@ narrow w n e f = elim (cases_lt 32 w) [ inl l ↦ absurd (f 32 l (get_or_past n 
 pub within : (w : ℕ) (n : List ℕ) (i : ℕ) → length n ≡ 32 → false ≡ empty_below w n → i < w → i < 32
 within w n i e f l = omega (arith, narrow w n e (none_filled w n (sym f)))
 
--- ---- one turn of a loop that counts
+-- ---- the counts as folds over the first words
 
-pub surplus_none : (n : List ℕ) → surplus n 0 ≡ 0
+pub surplus_sum : (w : ℕ) (n : List ℕ) → w ≤ length n → empty_below w n ≡ false → sum_by ones (take w n) ≡ surplus n w + w
 unfolding surplus
-surplus_none n = refl
+surplus_sum zero n h f = refl
+surplus_sum (suc k) n h f =
+    let q = or_parts (eqb (get_or n k 0) 0) (empty_below k n) f in
+    let p : 0 < ones (get_or n k 0) = ones_pos (get_or n k 0) (eqb-false (get_or n k 0) 0 q.0) in
+    rw (take-suc n k 0 (omega arith), sum_by-append ones) (omega (arith, surplus_sum k n (omega arith) q.1))
 
-pub surplus_turn : (n : List ℕ) (k : ℕ) → surplus n (k + 1) ≡ surplus n k + (ones (get_or n k 0) - 1)
-unfolding surplus
-surplus_turn n k = rw add-one
-
-pub wide_none : (n : List ℕ) → wide n 0 ≡ 0
+pub wide_count : (w : ℕ) (n : List ℕ) → w ≤ length n → count_by (λ x. ltb 1 (ones x)) (take w n) ≡ wide n w
 unfolding wide
-wide_none n = refl
+wide_count zero n h = refl
+wide_count (suc k) n h = rw (take-suc n k 0 (omega arith), sum_by-append (λ x. cond (ltb 1 (ones x)) 1 0)) (omega (arith, wide_count k n (omega arith)))
 
-pub wide_more : (n : List ℕ) (k : ℕ) → 1 < ones (get_or n k 0) → wide n (k + 1) ≡ wide n k + 1
-unfolding wide
-wide_more n k h = rw (add-one k) (ap (λ (x : ℕ). wide n k + x) (cond-true {A = ℕ} (ltb 1 (ones (get_or n k 0))) 1 0 (lt-ltb 1 _ h)))
+-- the same at what a look at the first words gives
+module _ (w : ℕ) (n ws : List ℕ) (long : length n ≡ 32) (h : w ≤ 32) (e : ws ≡ take w n) (f : empty_below w n ≡ false) where
+  pub rest_sum : sum_by ones ws ≡ rest w n + length ws
+  rest_sum = ap (sum_by ones) e ∙ surplus_sum w n (omega arith) f ∙ omega (arith, cond-false (empty_below w n) 0 (surplus n w) f, ap length e, length-take w n)
 
-pub wide_same : (n : List ℕ) (k : ℕ) → ones (get_or n k 0) ≤ 1 → wide n (k + 1) ≡ wide n k
-unfolding wide
-wide_same n k h = rw add-one (omega (arith, cond-false {A = ℕ} (ltb 1 (ones (get_or n k 0))) 1 0 (le-ltb 1 _ h)))
+  pub reach_count : count_by (λ x. ltb 1 (ones x)) ws ≡ reach w n
+  reach_count = ap (count_by (λ x. ltb 1 (ones x))) e ∙ wide_count w n (omega arith) ∙ sym (cond-false (empty_below w n) 0 (wide n w) f)

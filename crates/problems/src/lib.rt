@@ -7,15 +7,18 @@ ghost use Rattle.propagation.specs.Closing.{closure};
 ghost use Rattle.propagation.specs.Networks.{Supported};
 ghost use Rattle.words.specs.Words.{Fit};
 ghost use Rattle.trees.specs.Trees.{Orderly};
-ghost use Rattle.problems.specs.Problems.{Lawful, LeavesSolve, Priced, SolvedCosts, cut, narrowed, tree_of};
+ghost use Rattle.problems.specs.Problems.{Lawful, LeavesSolve, Priced, SolvedCosts, narrowed, tree_of};
 
-use nodes::node::Node;
+use nodes::Node;
 use propagation::{Constraints, close, close_after};
 use words::only;
 
 /// A problem: constraints, the values that each variable starts with, and what a solution costs.
 pub trait Problem: Constraints {
     type Cost: Copy;
+
+    // two costs are equal in one way at most, so that a type can keep it as a fact that they are
+    ghost costs: { IsSet Self.Cost };
 
     // the start words, and 0 for each word that is not in use
     ghost start: { Self → List ℕ };
@@ -58,13 +61,10 @@ pub fn root<P: Problem>(problem: &P) -> Node
 /// The child of a node at a choice: alternative 0 keeps only the value in the variable's word, any other removes it,
 /// and the child is the closure of the result.
 pub fn child<P: Problem>(problem: &P, node: Node, choice: (u8, u8), alternative: u8) -> Node
-    ensures { result.words ≡ closure (P.Constraints.network problem.now) (narrowed node.words choice.0 choice.1 alternative) }
+    ensures value { result.words ≡ closure (P.Constraints.network problem.now) (narrowed node.words choice.0 choice.1 alternative) }
+    ensures settled { Supported (P.Constraints.network problem.now) result.words }
 {
-    let (variable, value) = choice;
-    close(
-        problem,
-        narrow(node, variable as usize, value as u32, alternative == 0),
-    )
+    close(problem, narrow(node, choice, alternative))
 }
 
 /// The child of a node at a choice. In a closed node every constraint supports every value, so that only
@@ -74,31 +74,31 @@ pub fn child_within<P: Problem>(
     node: Node,
     choice: (u8, u8),
     alternative: u8,
+    // what the caller knows of the node; a type of closed nodes would ask for more than a word
     closed: bool,
 ) -> Node
     ensures value { (closed ≡ true → Supported (P.Constraints.network problem.now) node.words) → result.words ≡ closure (P.Constraints.network problem.now) (narrowed node.words choice.0 choice.1 alternative) }
     ensures settled { (closed ≡ true → Supported (P.Constraints.network problem.now) node.words) → Supported (P.Constraints.network problem.now) result.words }
 {
-    let (variable, value) = choice;
-    let narrowed = narrow(node, variable as usize, value as u32, alternative < 1);
     if closed {
-        close_after(problem, narrowed, only(variable as u32))
+        let moved = only(u32::from(choice.0));
+        close_after(problem, narrow(node, choice, alternative), moved)
     } else {
-        close(problem, narrowed)
+        child(problem, node, choice, alternative)
     }
 }
 
-/// The node with one word cut at a value: only that value kept, or only that value removed.
-fn narrow(node: Node, variable: usize, value: u32, keep: bool) -> Node
-    ensures value { result.words ≡ slice_set node.words variable (cut (slice_index node.words variable) value keep) }
+/// The node with the variable's word cut at the value: only that value kept, or only that value removed.
+fn narrow(node: Node, choice: (u8, u8), alternative: u8) -> Node
+    ensures value { result.words ≡ narrowed node.words choice.0 choice.1 alternative }
     ensures fit { Fit node.words }
 {
-    if variable >= 32 {
+    let (variable, value) = (usize::from(choice.0), u32::from(choice.1));
+    let Some(&word) = node.words.get(variable) else {
         return node;
-    }
-    let mut narrowed = node;
-    let word = node.words[variable];
+    };
     let kept = word & only(value);
-    narrowed.words[variable] = if keep { kept } else { word ^ kept };
+    let mut narrowed = node;
+    narrowed.words[variable] = if alternative == 0 { kept } else { word ^ kept };
     narrowed
 }

@@ -1,6 +1,8 @@
-use Rattle.std.proofs.Common.{◌≡◌, ℕ, ◌+◌, ◌<◌, ◌≤◌, min, Bool, true, false, List, length, get_or, sym, refl, ap, ◌∙◌, inl, inr, arith}
+use Rattle.std.proofs.Common.{◌≡◌, ℕ, ◌+◌, ◌<◌, ◌≤◌, min, true, false, List, length, get_or, sym, ap, ◌∙◌, inl, inr, arith}
 use lib.Bits.{bit_and, bit_or, or_zero_r}
 use Rattle.std.proofs.lemmas.Bool.{cases_eq, cases_Bool, both_ways, and_from, and_parts, or_parts}
+use Rattle.std.specs.Prelude.{Some, None, IfSome, IsSomeAnd}
+use Rattle.std.specs.declared.option.Option.{Option}
 use Rattle.words.specs.Words.{bit, has, Inside}
 use Rattle.nodes.specs.Choosing.{Filled}
 use Rattle.propagation.specs.Networks.{Network, Holds, Supported, Largest, Sane, Revised, Differ, Apart, Settled}
@@ -10,63 +12,53 @@ use Rattle.words.proofs.Inside.{inside_le}
 use Rattle.propagation.proofs.Closures.{total_le, total_less}
 
 -- nothing calls for a revision of constraint k: not every one is to be revised, and it is about none of the variables
-abbrev pub Quiet : Network → Bool → ℕ → ℕ → Type 0
-Quiet p first variables k = (first ≡ false) × Apart p k variables
+abbrev pub Quiet : Network → Option ℕ → ℕ → Type 0
+Quiet p moved k = IsSomeAnd moved (λ v. Apart p k v)
 
 -- a constraint that nothing calls for supports all
-abbrev pub Calm : Network → List ℕ → Bool → ℕ → Type 0
-Calm p n first variables = (k : ℕ) → k < p.count → Quiet p first variables k → Holds p k n
+abbrev pub Calm : Network → List ℕ → Option ℕ → Type 0
+Calm p n moved = (k : ℕ) → k < p.count → Quiet p moved k → Holds p k n
 
 -- m is on the way from n to the closure, and calm if n was
-pub record Reached (p : Network) (n m : List ℕ) (every : Bool) (moved : ℕ) (first : Bool) (changed : ℕ) : Type 0 where
+pub record Reached (p : Network) (n m : List ℕ) (moved todo : Option ℕ) : Type 0 where
   pub long : length m ≡ 32
   pub inside : Inside m n
   pub filled : Filled p.width m
   pub keeps : (o : List ℕ) → Inside o n → Supported p o → Inside o m
-  pub settled : Calm p n every moved → Calm p m first changed
+  pub settled : Calm p n moved → Calm p m todo
 
 -- within a sweep that began at b, before constraint j
-pub record Sweep (p : Network) (b m : List ℕ) (first : Bool) (todo changed j : ℕ) : Type 0 where
+pub record Sweep (p : Network) (b m : List ℕ) (todo : Option ℕ) (changed j : ℕ) : Type 0 where
   pub long : length m ≡ 32
   pub inside : Inside m b
   pub filled : Filled p.width m
   pub keeps : (o : List ℕ) → Inside o b → Supported p o → Inside o m
-  pub settled : Calm p b first todo → (k : ℕ) → k < p.count → Apart p k changed → (j ≤ k → Quiet p first todo k) → Holds p k m
+  pub settled : Calm p b todo → (k : ℕ) → k < p.count → Apart p k changed → (j ≤ k → Quiet p todo k) → Holds p k m
   pub falls : total m + min changed 1 ≤ total b
 
 module _ (p : Network) (s : Sane p) (n : List ℕ) where
-  pub begin : (every : Bool) (moved : ℕ) → length n ≡ 32 → Filled p.width n → Reached p n n every moved every moved
-  begin every moved l f = record { long = l; inside = λ i v h. h; filled = f; keeps = λ o h _. h; settled = λ g. g }
+  pub begin : (moved : Option ℕ) → length n ≡ 32 → Filled p.width n → Reached p n n moved moved
+  begin moved l f = record { long = l; inside = λ i v h. h; filled = f; keeps = λ o h _. h; settled = λ g. g }
 
-  pub enter : (m : List ℕ) (every : Bool) (moved : ℕ) (first : Bool) (changed : ℕ) → Reached p n m every moved first changed → Sweep p m m first changed 0 0
-  enter m every moved first changed q = record {
-    long = q.long;
-    inside = λ i v h. h;
-    filled = q.filled;
-    keeps = λ o h _. h;
-    settled = λ g k h _ a. g k h (a (omega arith));
-    falls = omega arith;
-  }
-
-  pub leave : (b m : List ℕ) (every : Bool) (moved : ℕ) (first : Bool) (todo changed j : ℕ) → p.count ≤ j → Reached p n b every moved first todo → Sweep p b m first todo changed j
-      → Reached p n m every moved false changed
-  leave b m every moved first todo changed j e a q = record {
+  pub leave : (b m : List ℕ) (moved todo : Option ℕ) (changed j : ℕ) → p.count ≤ j → Reached p n b moved todo → Sweep p b m todo changed j → Reached p n m moved (Some changed)
+  leave b m moved todo changed j e a q = record {
     long = q.long;
     inside = λ i v h. a.inside i v (q.inside i v h);
     filled = q.filled;
     keeps = λ o g u. q.keeps o (a.keeps o g u) u;
-    settled = λ g k h t. q.settled (a.settled g) k h t.1 (λ l. absurd (omega arith));
+    settled = λ g k h t. q.settled (a.settled g) k h t (λ l. absurd (omega arith));
   }
 
   -- nothing calls for constraint j
-  pub skip : (b m : List ℕ) (first : Bool) (todo changed j : ℕ) → first ≡ false → bit_and (p.touches j) (bit_or todo changed) ≡ 0
-      → Sweep p b m first todo changed j → Sweep p b m first todo changed (j + 1)
-  skip b m first todo changed j f z q = record {
+  pub skip : (b m : List ℕ) (todo : Option ℕ) (changed j : ℕ) → IsSomeAnd todo (λ v. bit_and (p.touches j) (bit_or v changed) ≡ 0)
+      → Sweep p b m todo changed j → Sweep p b m todo changed (j + 1)
+  skip b m None changed j z q = absurd z
+  skip b m (Some todo) changed j z q = record {
     long = q.long;
     inside = q.inside;
     filled = q.filled;
     keeps = q.keeps;
-    settled = λ g k h a t. q.settled g k h a (λ l. elim (cases_eq k j) [ inl e ↦ (f, λ i u. clear i (ap (λ (x : ℕ). bit (p.touches x) i) (sym e) ∙ u)) | inr ne ↦ t (omega arith) ]);
+    settled = λ g k h a t. q.settled g k h a (λ l. elim (cases_eq k j) [ inl e ↦ (λ i u. clear i (ap (λ (x : ℕ). bit (p.touches x) i) (sym e) ∙ u)) | inr ne ↦ t (omega arith) ]);
     falls = q.falls;
   }
     where
@@ -78,7 +70,7 @@ module _ (p : Network) (s : Sane p) (n : List ℕ) where
           ]
 
   -- constraint j is revised
-  module _ (b m m' : List ℕ) (first : Bool) (todo changed j d : ℕ) (lt : j < p.count) (r : Revised p j m m') (f : Differ m m' d) (q : Sweep p b m first todo changed j) where
+  module _ (b m m' : List ℕ) (todo : Option ℕ) (changed j d : ℕ) (lt : j < p.count) (r : Revised p j m m') (f : Differ m m' d) (q : Sweep p b m todo changed j) where
     below : Inside m' m
     below i v h = (and_parts (has m i v) (p.supports j m i v) (sym (r i v) ∙ h)).0
 
@@ -93,7 +85,7 @@ module _ (p : Network) (s : Sane p) (n : List ℕ) where
     pub still : d ≡ 0 → Filled p.width m'
     still z i l e = q.filled i l (sym (same_words z i) ∙ e)
 
-    pub revise : Filled p.width m' → Sweep p b m' first todo (bit_or changed d) (j + 1)
+    pub revise : Filled p.width m' → Sweep p b m' todo (bit_or changed d) (j + 1)
     revise full = record {
       long = f.long ∙ q.long;
       inside = λ i v h. q.inside i v (below i v h);
@@ -109,7 +101,7 @@ module _ (p : Network) (s : Sane p) (n : List ℕ) where
         same : (k : ℕ) → Apart p k (bit_or changed d) → (i : ℕ) → bit (p.touches k) i ≡ true → get_or m i 0 ≡ get_or m' i 0
         same k a i u = sym (f.same i (was k a i u).1)
 
-        holds : Calm p b first todo → (k : ℕ) → k < p.count → Apart p k (bit_or changed d) → (j + 1 ≤ k → Quiet p first todo k) → Holds p k m'
+        holds : Calm p b todo → (k : ℕ) → k < p.count → Apart p k (bit_or changed d) → (j + 1 ≤ k → Quiet p todo k) → Holds p k m'
         holds g k h a t i v x = s.«local» k i v m m' q.filled full (same k a) (elim (cases_eq k j) [
           | inl e ↦ ap (λ (y : ℕ). p.supports y m i v) e ∙ (and_parts (has m i v) (p.supports j m i v) (sym (r i v) ∙ x)).1
           | inr ne ↦ q.settled g k h (λ i u. (was k a i u).0) (λ l. t (omega arith)) i v (below i v x)
@@ -124,9 +116,13 @@ module _ (p : Network) (s : Sane p) (n : List ℕ) where
           | inr ne ↦ omega (arith, q.falls, less ne)
         ]
 
-  pub ends : (m : List ℕ) (every : Bool) (moved : ℕ) → (every ≡ false → Settled p n moved) → Filled p.width n → Reached p n m every moved false 0 → Largest p n m
-  ends m every moved g full q = record {
+  pub ends : (m : List ℕ) (moved : Option ℕ) → IfSome moved (λ v. Settled p n v) → Filled p.width n → Reached p n m moved (Some 0) → Largest p n m
+  ends m moved g full q = record {
     inside = q.inside;
-    supported = λ k h. q.settled (λ j l t. g t.0 full j l t.1) k h (refl, λ i _. bit_zero i);
+    supported = λ k h. q.settled (calm moved g) k h (λ i _. bit_zero i);
     largest = q.keeps;
   }
+    where
+      calm : (moved : Option ℕ) → IfSome moved (λ v. Settled p n v) → Calm p n moved
+      calm None g j l t = absurd t
+      calm (Some v) g j l t = g full j l t

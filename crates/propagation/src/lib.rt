@@ -1,13 +1,12 @@
 //! Propagation: the closure of a node, for any family of constraints.
 #![tactic(auto)]
 
-ghost use Rattle.std.specs.Prelude.{◌≡◌, ℕ, ◌<◌, ◌≤◌, true, false, ◌≢◌, bit_and};
+ghost use Rattle.std.specs.Prelude.{◌≡◌, ℕ, ◌<◌, ◌≤◌, true, false, ◌≢◌, bit_and, bit_or, IfSome, IsSomeAnd};
 ghost use Rattle.nodes.specs.Choosing.{empty_below};
 ghost use Rattle.propagation.specs.Networks.{Network, Sane, Revised, Differ, ClosureOf, Settled};
 ghost use Rattle.propagation.specs.Closing.{closure};
 
-use nodes::choosing::has_empty;
-use nodes::node::Node;
+use nodes::Node;
 
 /// Constraints that can be revised one at a time.
 pub trait Constraints {
@@ -21,8 +20,7 @@ pub trait Constraints {
 
     /// The number of constraints.
     fn count(&self) -> usize
-        ensures value { result ≡ (network self.now).count }
-        ensures sane { Sane (network self.now) };
+        ensures value { result ≡ (network self.now).count };
 
     /// The variables that constraint k is about, as a set; none for a constraint that is not there.
     fn touches(&self, k: usize) -> u32
@@ -35,16 +33,15 @@ pub trait Constraints {
         ensures revised { k < (network self.now).count → Revised (network self.now) k node.old.words node.new.words }
         ensures nothing { (network self.now).count ≤ k → node.new.words ≡ node.old.words }
         ensures differ { Differ node.old.words node.new.words result };
+
+    ghost sane: { (s : Self) → Sane (network s) };
 }
 
-/// Whether constraint k has to be revised: at first each one, then those about a variable that has changed.
-fn due<P: Constraints>(problem: &P, k: usize, first: bool, moved: u32) -> bool
-    ensures { result ≡ false → k < (P.Constraints.network problem.now).count → (first ≡ false) × (bit_and ((P.Constraints.network problem.now).touches k) moved ≡ 0) }
+/// Whether constraint k has to be revised: each one where nothing is known of the node, else those about a variable that has moved.
+fn due<P: Constraints>(problem: &P, k: usize, moved: Option<u32>, changed: u32) -> bool
+    ensures { result ≡ false → k < (P.Constraints.network problem.now).count → IsSomeAnd moved (λ before. bit_and ((P.Constraints.network problem.now).touches k) (bit_or before changed) ≡ 0) }
 {
-    if first {
-        return true;
-    }
-    problem.touches(k) & moved != 0
+    moved.is_none_or(|before| problem.touches(k) & (before | changed) != 0)
 }
 
 /// Whether a revision that changed these words has emptied one.
@@ -52,10 +49,7 @@ fn emptied(node: &Node, width: usize, changed: u32) -> bool
     ensures yes { result ≡ true → empty_below width node.now.words ≡ true }
     ensures no { result ≡ false → (changed ≢ 0) → empty_below width node.now.words ≡ false }
 {
-    if changed == 0 {
-        return false;
-    }
-    has_empty(node, width)
+    changed != 0 && node.has_empty(width)
 }
 
 /// The closure of a node: the largest node inside it in which every constraint supports every value, or the dead
@@ -64,7 +58,7 @@ pub fn close<P: Constraints>(problem: &P, start: Node) -> Node
     ensures value { result.words ≡ closure (P.Constraints.network problem.now) start.words }
     ensures largest { ClosureOf (P.Constraints.network problem.now) start.words result.words }
 {
-    settle(problem, start, true, 0)
+    settle(problem, start, None)
 }
 
 /// The closure of a node in which every constraint about none of the changed variables supports every value already:
@@ -74,28 +68,26 @@ pub fn close_after<P: Constraints>(problem: &P, start: Node, changed: u32) -> No
     ensures largest { Settled (P.Constraints.network problem.now) start.words changed → ClosureOf (P.Constraints.network problem.now) start.words result.words }
     ensures sane { Sane (P.Constraints.network problem.now) }
 {
-    settle(problem, start, false, changed)
+    settle(problem, start, Some(changed))
 }
 
 /// Revises constraints until nothing changes: every constraint at first, or only those about a variable that has moved.
-fn settle<P: Constraints>(problem: &P, start: Node, every: bool, moved: u32) -> Node
-    ensures value { (every ≡ false → Settled (P.Constraints.network problem.now) start.words moved) → result.words ≡ closure (P.Constraints.network problem.now) start.words }
-    ensures largest { (every ≡ false → Settled (P.Constraints.network problem.now) start.words moved) → ClosureOf (P.Constraints.network problem.now) start.words result.words }
+fn settle<P: Constraints>(problem: &P, start: Node, mut moved: Option<u32>) -> Node
+    ensures value { IfSome moved (λ before. Settled (P.Constraints.network problem.now) start.words before) → result.words ≡ closure (P.Constraints.network problem.now) start.words }
+    ensures largest { IfSome moved (λ before. Settled (P.Constraints.network problem.now) start.words before) → ClosureOf (P.Constraints.network problem.now) start.words result.words }
     ensures sane { Sane (P.Constraints.network problem.now) }
 {
     let width = problem.width();
     let count = problem.count();
     let mut node = start;
-    if has_empty(&node, width) {
+    if node.has_empty(width) {
         return Node { words: [0; 32] };
     }
-    let mut first = every;
-    let mut changed = moved;
     'sweeps: loop {
-        let todo = changed;
-        changed = 0;
+        let mut changed = 0;
+        // k is the number by which the constraints are asked
         'each: for k in 0..count {
-            if due(problem, k, first, todo | changed) {
+            if due(problem, k, moved, changed) {
                 let words = problem.revise(k, &mut node);
                 if emptied(&node, width, words) {
                     return Node { words: [0; 32] };
@@ -106,6 +98,6 @@ fn settle<P: Constraints>(problem: &P, start: Node, every: bool, moved: u32) -> 
         if changed == 0 {
             return node;
         }
-        first = false;
+        moved = Some(changed);
     }
 }

@@ -1,10 +1,11 @@
-use Rattle.std.proofs.Common.{◌≡◌, ℕ, ◌<◌, ◌≤◌, true, false, ltb, List, [], ◌∷◌, length, take, Ok, sym, refl, ap, ◌∙◌, arith}
+use Rattle.std.proofs.Common.{◌≡◌, ℕ, ◌≤◌, true, false, ltb, List, [], ◌∷◌, length, take, sym, refl, ap, ◌∙◌, arith}
 use Rattle.std.proofs.lemmas.Bool.{ltb-true, ltb-false, le-leb, lt-leb}
 use Rattle.space.specs.Meaning.{Meaning, placed}
-use Rattle.space.specs.Calls.{turn_answer, forgotten}
+use Rattle.space.specs.Calls.{forgotten}
+use Rattle.layers.specs.Moves.{At}
 use Rattle.traces.specs.Lines.{Line, rest_of, released, unchecked, stale, top}
 use Rattle.recomputing.specs.Paths.{follow, nodes, Descends}
-use Rattle.recomputing.specs.Agreement.{recomputing, Agrees, Loose}
+use Rattle.recomputing.specs.Agreement.{Agrees, Loose}
 use Rattle.recomputing.specs.Effects.{not_deeper, pruned_line, forgotten_line}
 use Rattle.recomputing.specs.Follow.{descends_more, top_bound}
 
@@ -39,16 +40,23 @@ module _ {N C : Type 0} where
   forgotten_cons m x h e = rw e refl
 
   -- one turn of dropping checkpoints
-  pruned : (m n : Meaning N C) (p ds cs : List ℕ) (g : ℕ) (l' : Line) → Loose m (record { path = p; depths = ds; checks = cs; gap = g }) → true ≡ stale (record { path = p; depths = ds; checks = cs; gap = g }) → n ≡ forgotten m → l' ≡ unchecked (record { path = p; depths = ds; checks = cs; gap = g }) → (recomputing n l' ≡ recomputing m (record { path = p; depths = ds; checks = cs; gap = g })) × Loose n l'
+  pruned : (m n : Meaning N C) (p ds cs : List ℕ) (g : ℕ) (l' : Line) → Loose m (record { path = p; depths = ds; checks = cs; gap = g }) → true ≡ stale (record { path = p; depths = ds; checks = cs; gap = g }) → n ≡ forgotten m → l' ≡ unchecked (record { path = p; depths = ds; checks = cs; gap = g }) → At m m.current n × Loose n l'
   pruned m n p ds [] g l' w h e f = let z : ◌≡◌ {A = ℕ} 0 1 = cc in let y : ⊥ = omega arith in absurd y
   pruned m n p ds (x ∷ cs) g l' w h e f =
       let k = forgotten_cons m (follow m.tree m.tree.root (take x p)) (nodes m.tree p cs) w.below in
       rw (e, k, f) (refl, record { legal = w.legal; here = w.here; depths = w.depths; checks = descends_more x (length p) cs w.checks.1 w.checks.0; below = refl })
 
-  pub pruned_once : (m n : Meaning N C) (l l' : Line) → Loose m l → true ≡ stale l → n ≡ forgotten m → l' ≡ unchecked l → (recomputing n l' ≡ recomputing m l) × Loose n l' × (pruned_line l' ≡ pruned_line l)
-  pruned_once m n l l' w h e f =
-      let t = pruned m n l.path l.depths l.checks l.gap l' w h e f in
-      (t.0, t.1, ap pruned_line f ∙ pruned_rest l.path l.depths l.checks l.gap h)
+  still : (m n k : Meaning N C) → At m m.current n → At n n.current k → At m m.current k
+  still m n k e f = f ∙ ap (λ (z : Meaning N C). placed z z.current k.held) e
+
+  -- so far some of the deeper checkpoints are dropped
+  abbrev pub Dropping : Meaning N C → Meaning N C → Line → Line → Type 0
+  Dropping m n l l' = At m m.current n × Loose n l' × (pruned_line l' ≡ pruned_line l)
+
+  pub pruned_once : (m n k : Meaning N C) (l l₁ l₂ : Line) → Dropping m n l l₁ → true ≡ stale l₁ → k ≡ forgotten n → l₂ ≡ unchecked l₁ → Dropping m k l l₂
+  pruned_once m n k l l₁ l₂ i h e f =
+      let t = pruned n k l₁.path l₁.depths l₁.checks l₁.gap l₂ i.1 h e f in
+      (still m n k i.0 t.0, t.1, ap pruned_line f ∙ pruned_rest l₁.path l₁.depths l₁.checks l₁.gap h ∙ i.2)
 
   tight : (m : Meaning N C) (p ds cs : List ℕ) (g : ℕ) → Loose m (record { path = p; depths = ds; checks = cs; gap = g }) → false ≡ stale (record { path = p; depths = ds; checks = cs; gap = g }) → Agrees m (record { path = p; depths = ds; checks = cs; gap = g })
   tight m p ds [] g w h = record { legal = w.legal; here = w.here; depths = w.depths; checks = tt; below = w.below }
@@ -56,12 +64,23 @@ module _ {N C : Type 0} where
   tight m p (d ∷ ds) (x ∷ cs) g w h = record { legal = w.legal; here = w.here; depths = w.depths; checks = (ltb-false d x (sym h), w.checks.1); below = w.below }
 
   -- when none is deeper, the layer and the space agree again
-  pub pruned_out : (m : Meaning N C) (l : Line) → Loose m l → false ≡ stale l → Agrees m l × (l ≡ pruned_line l)
-  pruned_out m l w h = (tight m l.path l.depths l.checks l.gap w h, pruned_all l.path l.depths l.checks l.gap w.checks h)
+  pub pruned_out : (m n : Meaning N C) (l l' : Line) → Dropping m n l l' → false ≡ stale l' → At m m.current n × Agrees n l' × (l' ≡ pruned_line l)
+  pruned_out m n l l' i h = (i.0, tight n l'.path l'.depths l'.checks l'.gap i.1 h, pruned_all l'.path l'.depths l'.checks l'.gap i.1.checks h ∙ i.2)
 
-  pub loosened : (m : Meaning N C) (l l' : Line) → Agrees m l → l' ≡ released l → Loose m l'
+  loosened : (m : Meaning N C) (l l' : Line) → Agrees m l → l' ≡ released l → Loose m l'
   loosened m l l' s e = rw e record { legal = s.legal; here = s.here; depths = rest_descends (length l.path) l.depths s.depths; checks = descends_more (top l.depths) (length l.path) l.checks s.checks (top_bound (length l.path) l.depths s.depths); below = s.below }
 
-  pub forgets : (m : Meaning N C) (p ds cs : List ℕ) (g : ℕ) → 0 < length ds → (Ok tt ≡ turn_answer (recomputing m (record { path = p; depths = ds; checks = cs; gap = g }))) × (recomputing m (released (record { path = p; depths = ds; checks = cs; gap = g })) ≡ forgotten (recomputing m (record { path = p; depths = ds; checks = cs; gap = g }))) × (pruned_line (released (record { path = p; depths = ds; checks = cs; gap = g })) ≡ forgotten_line (record { path = p; depths = ds; checks = cs; gap = g }))
-  forgets m p [] cs g h = let y : ⊥ = omega arith in absurd y
-  forgets m p (d ∷ ds) cs g h = (refl, refl, refl)
+  older_nodes : (m : Meaning N C) (p ds cs : List ℕ) (g : ℕ) (x : N) (older : List N) → nodes m.tree p ds ≡ x ∷ older → (nodes m.tree p (rest_of ds) ≡ older) × (pruned_line (released (record { path = p; depths = ds; checks = cs; gap = g })) ≡ forgotten_line (record { path = p; depths = ds; checks = cs; gap = g }))
+  older_nodes m p [] cs g x older h = let e = ap length h in let z : ⊥ = omega arith in absurd z
+  older_nodes m p (d ∷ ds) cs g x older h = (cc, refl)
+
+  -- the newest held node is off, and so are the checkpoints that are deeper than the next
+  pub forgets : (m n : Meaning N C) (l l₁ l' : Line) (x : N) (older : List N) → Agrees m l → nodes m.tree l.path l.depths ≡ x ∷ older → l₁ ≡ released l → (Loose m l₁ → At m m.current n × Agrees n l' × (l' ≡ pruned_line l₁))
+      → At m m.current n × Agrees n l' × (nodes n.tree l'.path l'.depths ≡ older) × (◌≡◌ {A = ℕ} 32 32) × (l' ≡ forgotten_line l)
+  forgets m n l l₁ l' x older s h e f =
+      let p = f (loosened m l l₁ s e) in
+      let o = older_nodes m l.path l.depths l.checks l.gap x older h in
+      let k = p.2 ∙ ap pruned_line e in
+      let t : n.tree ≡ m.tree = ap (λ (z : Meaning N C). z.tree) p.0 in
+      let q : nodes n.tree l'.path l'.depths ≡ older = rw (k, t) (o.0) in
+      (p.0, p.1, q, refl, k ∙ o.1)

@@ -1,12 +1,13 @@
-use Rattle.std.proofs.Common.{◌≡◌, ℕ, ◌+◌, ◌<◌, List, [], ◌∷◌, length, get_or, take, Ok, sym, refl, ap, ◌∙◌, arith, length-take-le}
+use Rattle.std.proofs.Common.{◌≡◌, ℕ, ◌+◌, ◌<◌, List, [], ◌∷◌, length, get_or, take, sym, refl, ap, ◌∙◌, arith, length-take-le}
+use Rattle.std.proofs.lemmas.Bool.{cond-true}
 use Rattle.space.specs.Meaning.{Meaning, placed, moved}
-use Rattle.space.specs.Calls.{done, redo_answer, redone, turn_answer, restored}
+use Rattle.space.specs.Calls.{done, redo_answer, redone}
 use Rattle.space.proofs.Steps.{is_chosen, redo_done}
+use Rattle.layers.specs.Moves.{At}
 use Rattle.traces.specs.Lines.{Line, cut, top}
 use Rattle.recomputing.specs.Paths.{follow, nodes, at_depth, Redoable}
-use Rattle.recomputing.specs.Agreement.{recomputing, Agrees, gone_back}
+use Rattle.recomputing.specs.Agreement.{Agrees, gone_back}
 use Rattle.recomputing.specs.Effects.{restored_line}
-use Rattle.std.proofs.lemmas.Bool.{cond-true}
 use Rattle.recomputing.specs.Follow.{follow_more, legal_at, legal_take, nodes_cut, top_bound}
 
 module _ {N C : Type 0} where
@@ -30,7 +31,7 @@ module _ {N C : Type 0} where
   back_at m p [] e = back_none m e
   back_at m p (x ∷ cs) e = back_some m _ _ e
 
-  pub redoable : (m n : Meaning N C) (l : Line) (from to : ℕ) → Agrees m l → n ≡ gone_back m → from ≡ top l.checks → to ≡ top l.depths → Redoable n l.path from to
+  redoable : (m n : Meaning N C) (l : Line) (from to : ℕ) → Agrees m l → n ≡ gone_back m → from ≡ top l.checks → to ≡ top l.depths → Redoable n l.path from to
   redoable m n l from to s e f h =
       let b = back_at m l.path l.checks s.below in
       rw (e, b, f, h) record {
@@ -40,13 +41,18 @@ module _ {N C : Type 0} where
         within = top_bound (length l.path) l.depths s.depths;
       }
 
-  restores : (m : Meaning N C) (p ds cs : List ℕ) (g : ℕ) → Agrees m (record { path = p; depths = ds; checks = cs; gap = g }) → 0 < length ds → (Ok tt ≡ turn_answer (recomputing m (record { path = p; depths = ds; checks = cs; gap = g }))) × (recomputing (at_depth m p (top ds)) (cut (record { path = p; depths = ds; checks = cs; gap = g }) (top ds)) ≡ restored (recomputing m (record { path = p; depths = ds; checks = cs; gap = g }))) × Agrees (at_depth m p (top ds)) (cut (record { path = p; depths = ds; checks = cs; gap = g }) (top ds))
-  restores m p [] cs g s h = let y : ⊥ = omega arith in absurd y
-  restores m p (d ∷ ds) cs g s h =
+  -- the newest held node is current again, and the path ends there
+  abbrev Returned : Meaning N C → Meaning N C → Line → Line → N → List N → Type 0
+  Returned m n l l' x older = At m x n × Agrees n l' × (nodes n.tree l'.path l'.depths ≡ x ∷ older) × (◌≡◌ {A = ℕ} 32 32) × (l' ≡ restored_line l)
+
+  returned : (m : Meaning N C) (p ds cs : List ℕ) (g : ℕ) (x : N) (older : List N) → Agrees m (record { path = p; depths = ds; checks = cs; gap = g }) → nodes m.tree p ds ≡ x ∷ older
+      → Returned m (at_depth m p (top ds)) (record { path = p; depths = ds; checks = cs; gap = g }) (cut (record { path = p; depths = ds; checks = cs; gap = g }) (top ds)) x older
+  returned m p [] cs g x older s h = let e = ap length h in let z : ⊥ = omega arith in absurd z
+  returned m p (d ∷ ds) cs g x older s h =
+      let e : follow m.tree m.tree.root (take d p) ≡ x = cc in
       let k = length-take-le d p s.depths.0 in
       let q = nodes_cut m.tree p d (d ∷ ds) (omega arith, s.depths.1) s.depths.0 in (
-        refl,
-        ap (λ (hs : List N). placed (recomputing m (record { path = p; depths = d ∷ ds; checks = cs; gap = g })) (follow m.tree m.tree.root (take d p)) hs) q,
+        ap (λ (y : N). placed m y m.held) e,
         record {
           legal = legal_take m.tree m.tree.root d p s.legal;
           here = refl;
@@ -54,17 +60,15 @@ module _ {N C : Type 0} where
           checks = s.checks;
           below = s.below ∙ sym (nodes_cut m.tree p d cs s.checks s.depths.0);
         },
+        q ∙ h,
+        refl,
+        refl,
       )
 
-  -- back at the deepest checkpoint and redone from there, the layer is restored
-  pub restored_by : (m b n : Meaning N C) (l l' : Line) (d : ℕ) → Agrees m l → 0 < length l.depths → b ≡ gone_back m → n ≡ at_depth b l.path d → d ≡ top l.depths → l' ≡ cut l d → (Ok tt ≡ turn_answer (recomputing m l)) × (recomputing n l' ≡ restored (recomputing m l)) × Agrees n l'
-  restored_by m b n l l' d s h e f g k =
+  -- back at the deepest checkpoint and redone from there
+  pub returns : (m b n : Meaning N C) (l l' : Line) (from to : ℕ) (x : N) (older : List N) → Agrees m l → nodes m.tree l.path l.depths ≡ x ∷ older → b ≡ gone_back m → (Redoable b l.path from to → n ≡ at_depth b l.path to)
+      → from ≡ top l.checks → to ≡ top l.depths → l' ≡ cut l to → Returned m n l l' x older
+  returns m b n l l' from to x older s h e r f g k =
       let a = back_at m l.path l.checks s.below in
-      rw (f, e, a, k, g) (restores m l.path l.depths l.checks l.gap s h)
-
-cut_at : (p ds cs : List ℕ) (g : ℕ) → 0 < length ds → cut (record { path = p; depths = ds; checks = cs; gap = g }) (top ds) ≡ restored_line (record { path = p; depths = ds; checks = cs; gap = g })
-cut_at p [] cs g h = let y : ⊥ = omega arith in absurd y
-cut_at p (d ∷ ds) cs g h = refl
-
-pub cut_restored : (l l' : Line) (d : ℕ) → 0 < length l.depths → d ≡ top l.depths → l' ≡ cut l d → l' ≡ restored_line l
-cut_restored l l' d h e f = f ∙ ap (cut l) e ∙ cut_at l.path l.depths l.checks l.gap h
+      let z = r (redoable m b l from to s e f g) in
+      rw (z, e, a, k, g) (returned m l.path l.depths l.checks l.gap x older s h)

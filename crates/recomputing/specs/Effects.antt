@@ -1,14 +1,8 @@
-use Rattle.std.specs.Prelude.{ℕ, cond, List, [], ◌∷◌, length, Result, nat_le, nat_lt}
-use Rattle.space.specs.declared.refusal.Refusal.{Refusal}
+use Rattle.std.specs.Prelude.{ℕ, cond, List, [], ◌∷◌, length, nat_le, nat_lt}
 use Rattle.space.specs.Meaning.{Meaning}
-use Rattle.space.specs.Calls.{done}
-use Rattle.traces.specs.Lines.{Line, stepped, held_here, checked_here, due, cut}
+use Rattle.traces.specs.Lines.{Line, held_here, checked_here, due, cut}
 
 -- What each call does to the line.
-
--- a step that is done is noted on the path
-abbrev pub stepped_line : Line → ℕ → Result (Unit {0}) Refusal → Line
-stepped_line l a r = cond (done r) (stepped l a) l
 
 -- a checkpoint at the path's end, if the space below is not full
 abbrev pub checked_below : {N C : Type 0} → Meaning N C → Line → Line

@@ -4,12 +4,9 @@ use Rattle.std.proofs.lemmas.List.{take-append-le}
 use Rattle.trees.specs.Trees.{Tree, Chooses, Orderly}
 use Rattle.space.specs.Meaning.{Meaning}
 use Rattle.space.specs.Laws.{AllProper, Lawful}
-use Rattle.space.proofs.Layers.{lawful_layered}
-use Rattle.traces.proofs.Arrays.{length_newest}
-use Rattle.traces.specs.Traces.{line}
-use Rattle.traces.specs.declared.Trace.{Trace}
-use Rattle.recomputing.specs.Agreement.{Agrees, recomputing}
-use Rattle.traces.specs.Lines.{top}
+use Rattle.layers.specs.Moves.{Keeps}
+use Rattle.traces.specs.Lines.{Line, top}
+use Rattle.recomputing.specs.Agreement.{Agrees}
 use Rattle.recomputing.specs.Paths.{follow, Legal, nodes, Descends}
 
 pub descends_more : (b b' : ℕ) (ds : List ℕ) → Descends b ds → b ≤ b' → Descends b' ds
@@ -74,10 +71,10 @@ module _ {N C : Type 0} where
   length_nodes t p [] = refl
   length_nodes t p (d ∷ ds) = ap suc (length_nodes t p ds)
 
-few_depths : (t : Trace) → length (line t).depths ≤ 32
-few_depths t = omega (arith, length_newest t.depths t.held, t.depths_ok.0, t.depths_ok.1)
-
--- the layer over a lawful space is lawful
-pub lawful_over : {N C : Type 0} (m : Meaning N C) {less : C → C → Bool} (t : Trace) → Lawful m less → Agrees m (line t) → Lawful (recomputing m (line t)) less
-lawful_over m t k a =
-    lawful_layered m 32 _ k (proper_nodes _ k.orderly (line t).path (line t).depths a.legal) (omega arith) (omega (arith, length_nodes m.tree (line t).path (line t).depths, few_depths t))
+-- the nodes at the held depths are nodes of the tree
+pub keeps_nodes : {N C : Type 0} (m : Meaning N C) {less : C → C → Bool} (l : Line) → length l.depths ≤ 32 → Lawful m less → Agrees m l → Keeps m 32 (nodes m.tree l.path l.depths)
+keeps_nodes m l few w a = record {
+  nodes = proper_nodes m.tree w.orderly l.path l.depths a.legal;
+  few = omega arith;
+  room = omega (arith, length_nodes m.tree l.path l.depths, few);
+}

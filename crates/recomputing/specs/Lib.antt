@@ -1,4 +1,5 @@
 pub mod Paths
 pub mod Agreement
+pub mod Facts
 pub mod Effects
 pub mod Follow

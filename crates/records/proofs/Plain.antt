@@ -11,7 +11,7 @@ table_passes k h = let z : k ≡ 0 = omega arith in rw z
 pub table_lawful : LawfulTable plain_table
 table_lawful = (refl, table_passes)
 
-pub one_variable : 1 ≡ variable_count plain_table
+pub one_variable : variable_count plain_table ≡ 1
 unfolding variables variable_count
 one_variable = refl
 
@@ -22,6 +22,6 @@ sum_passes k h = let z : k ≡ 0 = omega arith in rw z
 pub sum_lawful : LawfulSum plain_sum
 sum_lawful = (refl, sum_passes)
 
-pub one_wide : 1 ≡ sum_width plain_sum
+pub one_wide : sum_width plain_sum ≡ 1
 unfolding sum_width
 one_wide = refl

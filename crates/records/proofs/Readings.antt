@@ -1,10 +1,10 @@
 -- What the record that a reading looks at is known to hold.
-use Rattle.std.proofs.Common.{◌≡◌, ℕ, ◌+◌, ◌*◌, ◌<◌, List, length, get_or, ap, ◌∙◌}
+use Rattle.std.proofs.Common.{◌≡◌, ℕ, ◌+◌, ◌*◌, ◌<◌, List, length, get_or, ap, ◌∙◌, arith}
 use Rattle.records.specs.Words.{half, word, signed}
 use Rattle.records.specs.Checks.{line, LawfulTable, LawfulSum}
 use Rattle.records.specs.Tables.{variable_count, table_count, start_word, stops, minutes, table_x, table_y, table_row, VariableLine, TableLine}
 use Rattle.records.specs.Sums.{sum_count, objective_at, coefficient_at, least_at, ObjectiveLine, SumLine}
-use Rattle.records.proofs.Facts.{start_some, x_below, y_below, ends_apart, objective_small, coefficient_small, least_moderate}
+use Rattle.records.proofs.Facts.{line_size, some_records, variables_below, start_some, x_below, y_below, ends_apart, objective_small, coefficient_small, least_moderate}
 
 start_is : (bs l : List ℕ) (i : ℕ) → l ≡ line bs i → word l 4 ≡ start_word bs i
 unfolding start_word
@@ -18,10 +18,10 @@ minutes_is : (bs l : List ℕ) (i v : ℕ) → l ≡ line bs i → half l (10 + 
 unfolding minutes
 minutes_is bs l i v p = ap (λ (m : List ℕ). half m (10 + 4 * v)) p
 
-pub variable_line : (bs l : List ℕ) (i : ℕ) → LawfulTable bs → i < variable_count bs → l ≡ line bs i → length l ≡ 136 → VariableLine bs i l
-variable_line bs l i h b p n =
+pub variable_line : (bs l : List ℕ) (i : ℕ) → LawfulTable bs → i < variable_count bs → l ≡ line bs i → VariableLine bs i l
+variable_line bs l i h b p =
     record {
-      size = n;
+      size = ap (λ (m : List ℕ). length m) p ∙ line_size bs i (omega (arith, variables_below bs h));
       inside = b;
       start = start_is bs l i p;
       some = start_some bs i h b;
@@ -45,11 +45,11 @@ row_is : (bs l : List ℕ) (k a : ℕ) → l ≡ line bs (variable_count bs + k)
 unfolding table_row
 row_is bs l k a p = ap (λ (m : List ℕ). word m (8 + 4 * a)) p
 
-pub table_line : (bs l : List ℕ) (n k : ℕ) → LawfulTable bs → n ≡ variable_count bs → k < table_count bs → l ≡ line bs (n + k) → length l ≡ 136 → TableLine bs k l
-table_line bs l n k h e b p s =
+pub table_line : (bs l : List ℕ) (n k : ℕ) → LawfulTable bs → n ≡ variable_count bs → k < table_count bs → l ≡ line bs (n + k) → TableLine bs k l
+table_line bs l n k h e b p =
     let q = pair_line bs l n k e p in
     record {
-      size = s;
+      size = ap (λ (m : List ℕ). length m) q ∙ line_size bs (variable_count bs + k) (omega arith);
       inside = b;
       x = x_is bs l k q;
       y = y_is bs l k q;
@@ -63,9 +63,9 @@ objective_is : (bs l : List ℕ) (i : ℕ) → l ≡ line bs 0 → signed l (8 +
 unfolding objective_at
 objective_is bs l i p = ap (λ (m : List ℕ). signed m (8 + 4 * i)) p
 
-pub objective_line : (bs l : List ℕ) → LawfulSum bs → l ≡ line bs 0 → length l ≡ 136 → ObjectiveLine bs l
-objective_line bs l h p s =
-    record { size = s; parts = λ i. objective_is bs l i p; small = λ i b. objective_small bs i h b }
+pub objective_line : (bs l : List ℕ) → LawfulSum bs → l ≡ line bs 0 → ObjectiveLine bs l
+objective_line bs l h p =
+    record { size = ap (λ (m : List ℕ). length m) p ∙ line_size bs 0 (some_records bs h.0); parts = λ i. objective_is bs l i p; small = λ i b. objective_small bs i h b }
 
 coefficient_is : (bs l : List ℕ) (k i : ℕ) → l ≡ line bs (k + 1) → signed l (8 + 4 * i) ≡ coefficient_at bs k i
 unfolding coefficient_at
@@ -75,10 +75,10 @@ least_is : (bs l : List ℕ) (k : ℕ) → l ≡ line bs (k + 1) → signed l 4 
 unfolding least_at
 least_is bs l k p = ap (λ (m : List ℕ). signed m 4) p
 
-pub sum_line : (bs l : List ℕ) (k : ℕ) → LawfulSum bs → k < sum_count bs → l ≡ line bs (k + 1) → length l ≡ 136 → SumLine bs k l
-sum_line bs l k h b p s =
+pub sum_line : (bs l : List ℕ) (k : ℕ) → LawfulSum bs → k < sum_count bs → l ≡ line bs (k + 1) → SumLine bs k l
+sum_line bs l k h b p =
     record {
-      size = s;
+      size = ap (λ (m : List ℕ). length m) p ∙ line_size bs (k + 1) (omega arith);
       inside = b;
       least = least_is bs l k p;
       moderate = least_moderate bs k h b;

@@ -1,5 +1,8 @@
-use Rattle.std.proofs.Common.{◌≡◌, ℕ, ◌+◌, ◌*◌, ◌<◌, true, cond, ◌&&◌, eqb, List, length, get_or, drop, refl, add-one}
-use Rattle.std.proofs.lemmas.List.{at_drop_more}
+use Rattle.std.proofs.Common.{◌≡◌, ℕ, ◌+◌, ◌*◌, ◌<◌, true, cond, ◌&&◌, eqb, List, get_or, drop, refl, sym, add-one, zero, suc, Bool, [], ◌∷◌, take, ap, ◌∙◌, arith}
+use Rattle.std.proofs.Math.Bool.{and-true, and_assoc}
+use Rattle.std.specs.List.{fold}
+use Rattle.std.specs.Simd.{first_chunks}
+use Rattle.std.proofs.lemmas.List.{drop-drop}
 use Rattle.records.specs.Words.{signed}
 use Rattle.records.specs.Checks.{line, count, zeros, within, limited, variables, table_line_code, table_code, sum_line_code, sum_width, sum_code}
 use Rattle.records.specs.Tables.{variable_count}
@@ -35,9 +38,18 @@ pub limited_none : (l : List ℕ) → limited l 0 ≡ true
 unfolding limited
 limited_none l = refl
 
-pub zeros_more : (s : List ℕ) (i : ℕ) → i < length s → zeros (drop i s) ≡ (eqb (get_or s i 0) 0 && zeros (drop (i + 1) s))
-zeros_more s i h = at_drop_more zeros s i 0 h
-
 pub width_read : (bs l : List ℕ) → l ≡ line bs 0 → get_or l 1 0 ≡ sum_width bs
 unfolding sum_width
 width_read bs l e = cc
+
+pub zeros_over : (b : Bool) (s : List ℕ) → fold (λ z x. z && eqb x 0) b s ≡ (b && zeros s)
+zeros_over b [] = sym (and-true b)
+zeros_over b (x ∷ s) = zeros_over (b && eqb x 0) s ∙ and_assoc b (eqb x 0) (zeros s)
+
+-- record k of the first m records of a list
+pub chunk_at : {X : Type 0} (n k m : ℕ) (xs : List X) → k < m → get_or (first_chunks n m xs) k [] ≡ take n (drop (n * k) xs)
+chunk_at n k zero xs h = absurd (omega arith)
+chunk_at n zero (suc m) xs h = let e : n * 0 ≡ 0 = omega arith in rw e
+chunk_at n (suc k) (suc m) xs h =
+    let e : n * suc k ≡ n + n * k = omega arith in
+    rw e (chunk_at n k m (drop n xs) (omega arith) ∙ ap (take n) (drop-drop (n * k) n xs))

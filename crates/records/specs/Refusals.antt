@@ -1,4 +1,4 @@
-use Rattle.std.specs.Prelude.{◌≡◌, ℕ, ◌<◌, ◌≤◌, ◌⊎◌, List}
+use Rattle.std.specs.Prelude.{◌≡◌, ℕ, ◌<◌, ◌≤◌, ◌⊎◌, List, ◌++◌, codes, decimal}
 use Rattle.records.specs.Checks.{Fault}
 use Rattle.records.specs.declared.refusal.Cause.{Cause}
 use Rattle.records.specs.declared.refusal.Cause.TheVariants.{Length, Count, Kind, Zero, Number, Start, Limit, Absent}
@@ -14,6 +14,10 @@ number Number = 45
 number Start = 46
 number Limit = 47
 number Absent = 48
+
+-- the words of a refusal: the number of its cause, and the record that it names
+abbrev pub refused : Refusal → List ℕ
+refused e = codes "refused " ++ (decimal (number e.cause) ++ (codes " record " ++ decimal e.«record»))
 
 -- a refusal says the first check that a file fails, and where
 abbrev pub Faulty : (List ℕ → ℕ → ℕ) → List ℕ → Refusal → Type 0

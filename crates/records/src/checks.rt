@@ -2,6 +2,7 @@ ghost use Rattle.std.specs.Prelude.{◌≡◌, ℕ, ◌+◌, ◌*◌, ◌/◌, �
 ghost use Rattle.records.specs.Checks.{sum_file, whole_code, zeros, count};
 ghost use Rattle.records.specs.Refusals.{number};
 
+use crate::kinds::Kind;
 use crate::refusal::{Cause, Refusal};
 use crate::words::RECORD;
 
@@ -9,10 +10,7 @@ use crate::words::RECORD;
 pub fn is_sum_file(bytes: &[u8]) -> bool
     ensures { result ≡ sum_file bytes.now }
 {
-    let [first, ..] = bytes else {
-        return false;
-    };
-    *first == 3
+    bytes.first() == Some(&(Kind::Objective as u8))
 }
 
 /// The number of records, once the length and that number have been checked.
@@ -36,14 +34,9 @@ pub fn whole_count(bytes: &[u8]) -> Result<usize, Refusal>
     Ok(count)
 }
 
-/// Whether all bytes of a part are 0.
+/// Whether all bytes of a part are 0; without an early end, so that many are looked at in one step.
 pub fn all_zero(part: &[u8]) -> bool
     ensures { result ≡ zeros part.now }
 {
-    for x in part {
-        if *x != 0 {
-            return false;
-        }
-    }
-    true
+    part.iter().fold(true, |zero, x| zero & (*x == 0))
 }

@@ -2,9 +2,11 @@
 #![tactic(auto)]
 
 mod checks;
+mod kinds;
 mod refusal;
 mod words;
 
 pub use checks::{all_zero, is_sum_file, whole_count};
-pub use refusal::{Cause, Refusal, absent};
-pub use words::{RECORD, line_at, read_i32, read_u16, read_u32};
+pub use kinds::{Kind, UnknownKind};
+pub use refusal::{Cause, Refusal};
+pub use words::{Line, RECORD, line_at, lines_of, read_i32, read_u16, read_u32};

@@ -1,26 +1,28 @@
-ghost use Rattle.std.specs.Prelude.{◌≡◌};
-ghost use Rattle.records.specs.Refusals.{number};
+ghost use Rattle.std.specs.Prelude.{◌≡◌, Some};
+ghost use Rattle.records.specs.Refusals.{number, refused};
 ghost use Rattle.records.specs.declared.refusal.Cause.TheVariants.{Absent};
 
-/// Why a file is refused, or a number that was asked for.
+use std::fmt;
+
+/// Why a file is refused, or a number that was asked for; each cause has the number that a refusal prints.
 #[derive(Drop, Clone, Copy)]
 pub enum Cause {
     /// The length is no multiple of 136.
-    Length,
+    Length = 41,
     /// There is no record, or there are too many for the file's sort.
-    Count,
+    Count = 42,
     /// A kind is unknown or stands where it may not.
-    Kind,
+    Kind = 43,
     /// A byte that must be 0 is not.
-    Zero,
+    Zero = 44,
     /// A number of a variable, or of variables, is out of place.
-    Number,
+    Number = 45,
     /// A start word is 0.
-    Start,
+    Start = 46,
     /// A number is over its limit.
-    Limit,
+    Limit = 47,
     /// What was asked for is not there.
-    Absent,
+    Absent = 48,
 }
 
 /// A refusal: its cause, and the record, the count or the number asked that it names.
@@ -35,25 +37,24 @@ impl Refusal {
     pub fn number(&self) -> u8
         ensures { result ≡ number self.now.cause }
     {
-        match self.cause {
-            Cause::Length => 41,
-            Cause::Count => 42,
-            Cause::Kind => 43,
-            Cause::Zero => 44,
-            Cause::Number => 45,
-            Cause::Start => 46,
-            Cause::Limit => 47,
-            Cause::Absent => 48,
+        self.cause as u8
+    }
+
+    /// The refusal of a number that was asked for and is not there.
+    pub fn absent(asked: usize) -> Refusal
+        ensures { (result.cause ≡ Absent) × (result.«record» ≡ asked) }
+    {
+        Refusal {
+            cause: Cause::Absent,
+            record: asked,
         }
     }
 }
 
-/// The refusal of a number that was asked for and is not there.
-pub fn absent(asked: usize) -> Refusal
-    ensures { (result.cause ≡ Absent) × (result.«record» ≡ asked) }
-{
-    Refusal {
-        cause: Cause::Absent,
-        record: asked,
+impl fmt::Display for Refusal {
+    ghost output = { λ e. Some (refused e) };
+
+    fn fmt<W: fmt::Write>(&self, f: &mut fmt::Formatter<W>) -> fmt::Result {
+        write!(f, "refused {} record {}", self.number(), self.record)
     }
 }

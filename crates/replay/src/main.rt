@@ -22,6 +22,7 @@ fn main(rt: HostRuntime) -> anyhow::Result<()> {
 /// Prints the answers, or what cannot be read.
 fn replay(rt: &HostRuntime, stack: &str, number: &str, script: &str) -> anyhow::Result<()> {
     let text = fs::read(rt, script)?;
+    // Each line names an argument, which the error does not hold: so these are no `Display` of it.
     match read_request(rt.alloc(), stack.as_bytes(), number.as_bytes(), &text) {
         Err(Unread::Stack) => println!(rt; "bad stack: {stack}")?,
         Err(Unread::Number) => println!(rt; "bad number: {number}")?,
@@ -30,13 +31,7 @@ fn replay(rt: &HostRuntime, stack: &str, number: &str, script: &str) -> anyhow::
         Ok(request) => {
             let mut bytes = Vec::new(rt.alloc());
             rt.stdin().take(MOST).read_to_end(&mut bytes)?;
-            rt.print(replay_file(
-                rt.alloc(),
-                &bytes,
-                request.stack,
-                request.allowance,
-                &request.calls,
-            )?)?;
+            rt.print(replay_file(rt.alloc(), &bytes, &request)?)?;
         }
     }
     Ok(())

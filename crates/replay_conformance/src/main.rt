@@ -11,50 +11,29 @@ use std::io::Read;
 use std::{env, fs};
 
 fn main(rt: HostRuntime) -> anyhow::Result<()> {
-    let mut words = Vec::new(rt.alloc());
-    for word in env::args(&rt)?.skip(1) {
-        words.push(word)?;
-    }
-    for case in words.chunks_exact(4) {
-        if let [name, stack, number, script] = case {
-            println!(rt; "{name} {stack} {number} {script}")?;
-            replay_case(
-                &rt,
-                name.as_str(),
-                stack.as_bytes(),
-                number.as_bytes(),
-                script.as_str(),
-            )?;
-        }
+    let words: Vec<String> = env::args(&rt)?.skip(1).collect(rt.alloc())?;
+    let (cases, _) = words.as_chunks::<4>();
+    for case in cases {
+        replay_case(&rt, case)?;
     }
     Ok(())
 }
 
-/// Prints the answers of one case.
-fn replay_case(
-    rt: &HostRuntime,
-    name: &str,
-    stack: &[u8],
-    number: &[u8],
-    script: &str,
-) -> anyhow::Result<()> {
-    let text = fs::read(rt, script)?;
-    match read_request(rt.alloc(), stack, number, &text) {
+/// Prints one case and its answers.
+fn replay_case(rt: &HostRuntime, case: &[String; 4]) -> anyhow::Result<()> {
+    let [name, stack, number, script] = case;
+    println!(rt; "{name} {stack} {number} {script}")?;
+    let text = fs::read(rt, script.as_str())?;
+    match read_request(rt.alloc(), stack.as_bytes(), number.as_bytes(), &text) {
         Err(_) => println!(rt; "bad request")?,
-        Ok(request) if name == "staircase" => {
+        Ok(request) if name.as_str() == "staircase" => {
             let space = Staircase::new(request.allowance);
             let answers = replay_above(rt.alloc(), space, request.stack.above, &request.calls)?;
             rt.print(answers_text(rt.alloc(), &answers)?)?;
         }
         Ok(request) => {
-            let bytes = fs::read(rt, name)?;
-            rt.print(replay_file(
-                rt.alloc(),
-                &bytes,
-                request.stack,
-                request.allowance,
-                &request.calls,
-            )?)?;
+            let bytes = fs::read(rt, name.as_str())?;
+            rt.print(replay_file(rt.alloc(), &bytes, &request)?)?;
         }
     }
     Ok(())

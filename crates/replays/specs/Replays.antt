@@ -4,9 +4,7 @@ use Rattle.records.specs.Checks.{LawfulSum, LawfulTable, sum_code, sum_file, tab
 use Rattle.records.specs.Refusals.{Faulty}
 use Rattle.records.specs.declared.refusal.Refusal.{Refusal}
 use Rattle.propagation.specs.Closing.{closure}
-use Rattle.table_networks.specs.Files as tables
-use Rattle.sum_networks.specs.Files as sums
-use Rattle.surveys.specs.Surveys.{table_bound, table_cost}
+use Rattle.filed.specs.Meaning.{Reading, sum_reading, table_reading}
 use Rattle.texts.specs.Texts.{refusal_text}
 use Rattle.space.specs.Meaning.{Meaning}
 use Rattle.bare.specs.Bares.{bare_meaning, limit}
@@ -16,13 +14,16 @@ use Rattle.stacks.specs.declared.kinds.Stack.{Stack}
 use Rattle.stacks.specs.Stacks.{stack_over}
 use Rattle.reply_texts.specs.Replies.{answers_text, pair_text}
 
--- the bare space of a table file, at its root with this allowance
-abbrev pub table_space : List ℕ → ℕ → Meaning (List ℕ) (ℕ × ℕ)
-table_space bs allowance = bare_meaning (tables.network_of bs) (tables.start_of bs) (table_bound bs) (table_cost bs) (closure (tables.network_of bs) (tables.start_of bs)) (min allowance limit)
+-- the bare space of a file, which says what r reads in it, at its root with this allowance
+abbrev pub space_by : {C : Type 0} → Reading C → List ℕ → ℕ → Meaning (List ℕ) C
+space_by r bs allowance = bare_meaning (r.network bs) (r.start bs) (r.bound bs) (r.cost bs) (closure (r.network bs) (r.start bs)) (min allowance limit)
 
--- the bare space of a sum file, at its root with this allowance
+-- the bare space of a table file, and of a sum file
+abbrev pub table_space : List ℕ → ℕ → Meaning (List ℕ) (ℕ × ℕ)
+table_space = space_by table_reading
+
 abbrev pub sum_space : List ℕ → ℕ → Meaning (List ℕ) ℤ
-sum_space bs allowance = bare_meaning (sums.network_of bs) (sums.start_of bs) (sums.bound_of bs) (sums.cost_of bs) (closure (sums.network_of bs) (sums.start_of bs)) (min allowance limit)
+sum_space = space_by sum_reading
 
 -- the text is these lines, if the file is lawful, or the line of its fault
 abbrev pub Writes : Type 0 → (Refusal → Type 0) → List ℕ → List ℕ → Type 0

@@ -1,89 +1,92 @@
 //! The answers of a space as text, a line each.
 #![tactic(auto)]
 
-ghost use Rattle.std.specs.Prelude.{◌≡◌, ℕ, List, ◌++◌, IfOk, string_bytes, decimal, OnOk};
-ghost use Rattle.std.specs.Fmt.{signed_decimal};
-ghost use Rattle.reply_texts.specs.Replies.{answer_text, answers_text, pair_text, refusal_text, status_text};
+ghost use Rattle.std.specs.Prelude.{◌≡◌, ℕ, List, IfOk, Some, string_bytes, decimal};
+ghost use Rattle.std.specs.Fmt.{WritesOnOk, signed_decimal};
+ghost use Rattle.std.proofs.Common.{rules};
+ghost use Rattle.reply_texts.specs.Replies.{answers_text, pair_text, printed};
 
-use runs::calls::Answer;
-use space::refusal::Refusal;
+use runs::calls::{Answer, Reply};
 use std::alloc::{AllocError, Global};
-use trees::Status;
+use std::fmt;
 
 /// A cost that can be written.
 pub trait Shown: Copy {
     ghost shown: { Self → List ℕ };
 
-    /// Adds the cost to a text.
-    fn put(self, text: &mut String) -> Result<(), AllocError>
-        ensures { OnOk result (string_bytes text.new ≡ string_bytes text.old ++ shown self) };
+    /// Writes the cost.
+    fn put<W: fmt::Write>(self, f: &mut fmt::Formatter<W>) -> fmt::Result
+        ensures { WritesOnOk W.write_str_gives f.old result (shown self) f.new };
 }
 
+/// A number: it is written as it prints itself.
+pub trait Number: Copy + fmt::Display {
+    ghost digits: { Self → List ℕ };
+
+    ghost prints: { (n : Self) → Self.Display.output n ≡ Some (digits n) };
+}
+
+impl Number for i64 {
+    ghost digits = { signed_decimal };
+
+    ghost prints = { Prim.search rules };
+}
+
+impl Number for u16 {
+    ghost digits = { decimal };
+
+    ghost prints = { Prim.search rules };
+}
+
+impl<N: Number> Shown for N {
+    ghost shown = { N.Number.digits };
+
+    fn put<W: fmt::Write>(self, f: &mut fmt::Formatter<W>) -> fmt::Result {
+        write!(f, "{self}")
+    }
+}
+
+// A pair of costs is a tuple, which has no `Display`.
 impl Shown for (u32, u32) {
     ghost shown = { pair_text };
 
-    fn put(self, text: &mut String) -> Result<(), AllocError> {
+    fn put<W: fmt::Write>(self, f: &mut fmt::Formatter<W>) -> fmt::Result {
         let (stops, minutes) = self;
-        write!(text, "{stops}/{minutes}")
+        write!(f, "{stops}/{minutes}")
     }
 }
 
-impl Shown for i64 {
-    ghost shown = { signed_decimal };
+/// An answer, as it prints: a `Result` has no `Display`.
+#[derive(Drop)]
+struct Printed<'a, C>(&'a Answer<C>);
 
-    fn put(self, text: &mut String) -> Result<(), AllocError> {
-        let total = self;
-        write!(text, "{total}")
-    }
-}
+impl<'a, C: Shown> fmt::Display for Printed<'a, C> {
+    ghost output = { λ a. Some (printed C.Shown.shown a.0.now) };
 
-impl Shown for u16 {
-    ghost shown = { decimal };
-
-    fn put(self, text: &mut String) -> Result<(), AllocError> {
-        let number = self;
-        write!(text, "{number}")
-    }
-}
-
-/// Adds the line of a status.
-fn put_status(text: &mut String, status: Status) -> Result<(), AllocError>
-    ensures { OnOk result (string_bytes text.new ≡ string_bytes text.old ++ status_text status) }
-{
-    match status {
-        Status::Failed => writeln!(text, "failed"),
-        Status::Solved => writeln!(text, "solved"),
-        Status::Choice(choice) => {
-            let (variable, value) = choice;
-            writeln!(text, "choice {variable} {value}")
+    fn fmt<W: fmt::Write>(&self, f: &mut fmt::Formatter<W>) -> fmt::Result {
+        match self.0 {
+            Ok(Reply::Done) => f.write_str("done"),
+            Ok(Reply::Node(status)) => status.fmt(f),
+            Ok(Reply::Cost(cost)) => cost.put(f),
+            Ok(Reply::Number(number)) => number.fmt(f),
+            Err(refusal) => refusal.fmt(f),
         }
     }
 }
 
-/// Adds the line of a refusal.
-fn put_refusal(text: &mut String, refusal: Refusal) -> Result<(), AllocError>
-    ensures { OnOk result (string_bytes text.new ≡ string_bytes text.old ++ refusal_text refusal) }
-{
-    let number = refusal.number();
-    match refusal.layer() {
-        Some(layer) => writeln!(text, "refused {number} layer {layer}"),
-        None => writeln!(text, "refused {number}"),
-    }
-}
+/// The lines of a list of answers.
+#[derive(Drop)]
+struct Lines<'a, C>(&'a [Answer<C>]);
 
-/// Adds the line of an answer.
-fn put_answer<C: Shown>(text: &mut String, answer: Answer<C>) -> Result<(), AllocError>
-    ensures { OnOk result (string_bytes text.new ≡ string_bytes text.old ++ answer_text C.Shown.shown answer) }
-{
-    match answer {
-        Answer::Done => writeln!(text, "done"),
-        Answer::Refused(refusal) => put_refusal(text, refusal),
-        Answer::Node(status) => put_status(text, status),
-        Answer::Cost(cost) => {
-            cost.put(text)?;
-            writeln!(text)
+impl<'a, C: Shown> fmt::Display for Lines<'a, C> {
+    ghost output = { λ l. Some (answers_text C.Shown.shown l.0.now) };
+
+    fn fmt<W: fmt::Write>(&self, f: &mut fmt::Formatter<W>) -> fmt::Result {
+        for answer in self.0 {
+            Printed(answer).fmt(f)?;
+            f.write_str("\n")?;
         }
-        Answer::Number(number) => writeln!(text, "{number}"),
+        Ok(())
     }
 }
 
@@ -91,9 +94,5 @@ fn put_answer<C: Shown>(text: &mut String, answer: Answer<C>) -> Result<(), Allo
 pub fn answers_text<C: Shown>(heap: Global, answers: &[Answer<C>]) -> Result<String, AllocError>
     ensures { IfOk result (λ s. string_bytes s ≡ answers_text C.Shown.shown answers.now) }
 {
-    let mut text = String::new(heap);
-    for answer in answers {
-        put_answer(&mut text, *answer)?;
-    }
-    Ok(text)
+    Lines(answers).to_string(heap)
 }

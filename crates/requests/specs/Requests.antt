@@ -2,7 +2,9 @@ use Rattle.std.specs.Prelude.{◌≡◌, ℕ, List, Some, None, Ok, Err, vec_ite
 use Rattle.scripts.specs.Lines.{FirstUnknown, Script}
 use Rattle.scripts.specs.Numbers.{capped, value}
 use Rattle.scripts.specs.Stacks.{stack_of}
-use Rattle.requests.specs.declared.Request.{Request}
+use Rattle.stacks.specs.declared.request.Request.{Request}
+use Rattle.scripts.specs.declared.script.ScriptError.{ScriptError}
+use Rattle.scripts.specs.declared.script.ScriptError.TheVariants as script
 use Rattle.requests.specs.declared.Unread.{Unread}
 use Rattle.requests.specs.declared.Unread.TheVariants.{Stack, Number, Line, Memory}
 
@@ -13,6 +15,11 @@ number_of text = capped 1000000000000 (value text)
 -- it says something
 abbrev pub Says : {A : Type 0} → Option A → Type 0
 Says {A} o = (x : A) × (o ≡ Some x)
+
+-- why a request cannot be read whose script is refused
+abbrev pub unread_script : ScriptError → Unread
+unread_script (script.Line k) = Line k
+unread_script script.Memory = Memory
 
 -- The request that three texts make; or which of them, in this order, is none, and of a script the first line that is
 -- no call.

@@ -1,21 +1,13 @@
 //! Requests: a stack, an allowance and a list of calls, read from the arguments of a program.
 #![tactic(auto)]
 
-ghost use Rattle.requests.specs.Requests.{Read};
+ghost use Rattle.std.specs.Prelude.{◌≡◌};
+ghost use Rattle.requests.specs.Requests.{Read, unread_script};
 
-use runs::calls::Call;
 use scripts::script::ScriptError;
 use scripts::{read_number, read_script, read_stack};
-use stacks::kinds::Stack;
+pub use stacks::request::Request;
 use std::alloc::Global;
-
-/// A list of calls to be made on a stack of layers with this allowance.
-#[derive(Drop)]
-pub struct Request {
-    pub stack: Stack,
-    pub allowance: u64,
-    pub calls: Vec<Call>,
-}
 
 /// Why a request cannot be read: its stack, its number, a line of its script (from 1), or no memory for the calls.
 #[derive(Clone, Copy)]
@@ -24,6 +16,17 @@ pub enum Unread {
     Number,
     Line(usize),
     Memory,
+}
+
+impl From<ScriptError> for Unread {
+    ghost from_gives = { λ e r. r ≡ unread_script e };
+
+    fn from(e: ScriptError) -> Unread {
+        match e {
+            ScriptError::Line(line) => Unread::Line(line),
+            ScriptError::Memory => Unread::Memory,
+        }
+    }
 }
 
 /// Reads a stack, a number and a script, in this order.
@@ -35,19 +38,9 @@ pub fn read_request(
 ) -> Result<Request, Unread>
     ensures { Read stack.now number.now script.now result }
 {
-    let Some(stack) = read_stack(stack) else {
-        return Err(Unread::Stack);
-    };
-    let Some(allowance) = read_number(number) else {
-        return Err(Unread::Number);
-    };
-    match read_script(heap, script) {
-        Ok(calls) => Ok(Request {
-            stack,
-            allowance,
-            calls,
-        }),
-        Err(ScriptError::Line(line)) => Err(Unread::Line(line)),
-        Err(ScriptError::Memory) => Err(Unread::Memory),
-    }
+    Ok(Request {
+        stack: read_stack(stack).ok_or(Unread::Stack)?,
+        allowance: read_number(number).ok_or(Unread::Number)?,
+        calls: read_script(heap, script)?,
+    })
 }

@@ -20,12 +20,14 @@ pub enum Call {
     Reset,
 }
 
-/// What a space answers to a call.
+/// What a space replies to a call that it does not refuse.
 #[derive(Clone, Copy)]
-pub enum Answer<C> {
+pub enum Reply<C> {
     Done,
-    Refused(Refusal),
     Node(Status),
     Cost(C),
     Number(u64),
 }
+
+/// What a space answers to a call.
+pub type Answer<C> = Result<Reply<C>, Refusal>;

@@ -4,52 +4,50 @@
 ghost use Rattle.std.specs.Prelude.{◌≡◌, MatchResult};
 ghost use Rattle.runs.specs.Runs.{AnswersAsPlain, after, reply};
 
-use calls::{Answer, Call};
+use calls::{Answer, Call, Reply};
 use space::Space;
-use space::refusal::Refusal;
 use std::alloc::{AllocError, Global};
 
 pub mod calls;
 
-/// Done, or a refusal.
-fn told<C: Copy>(res: Result<(), Refusal>) -> Answer<C>
-    ensures { result ≡ Rattle.runs.specs.Runs.told res }
-{
-    match res {
-        Ok(()) => Answer::Done,
-        Err(refusal) => Answer::Refused(refusal),
-    }
-}
-
 /// Makes one call and gives the answer.
 pub fn ask<S: Space>(space: &mut S, call: Call) -> Answer<S::Cost>
-    ensures { S.Space.sound space.old → (result ≡ reply (S.Space.meaning space.old) call) × (S.Space.meaning space.new ≡ after (S.Space.meaning space.old) call) × S.Space.sound space.new }
+    ensures { (result ≡ reply (S.Space.meaning space.old) call) × (S.Space.meaning space.new ≡ after (S.Space.meaning space.old) call) }
 {
-    match call {
-        Call::Status => Answer::Node(space.status()),
-        Call::Bound => match space.bound() {
-            Ok(bound) => Answer::Cost(bound),
-            Err(refusal) => Answer::Refused(refusal),
-        },
-        Call::Word(i) => match space.word(i) {
-            Ok(word) => Answer::Number(u64::from(word)),
-            Err(refusal) => Answer::Refused(refusal),
-        },
-        Call::Width => Answer::Number(u64::from(space.width())),
-        Call::Capacity => Answer::Number(u64::from(space.capacity())),
-        Call::Allowance => Answer::Number(space.allowance()),
-        Call::Layer => Answer::Number(u64::from(space.layer())),
-        Call::Held => Answer::Number(u64::from(space.held())),
-        Call::Commit(alternative) => told(space.commit(alternative)),
-        Call::Redo(alternative) => told(space.redo(alternative)),
-        Call::Mark => told(space.mark()),
-        Call::Restore => told(space.restore()),
-        Call::Forget => told(space.forget()),
+    Ok(match call {
+        Call::Status => Reply::Node(space.status()),
+        Call::Bound => Reply::Cost(space.bound()?),
+        Call::Word(i) => Reply::Number(u64::from(space.word(i)?)),
+        Call::Width => Reply::Number(u64::from(space.width())),
+        Call::Capacity => Reply::Number(u64::from(space.capacity())),
+        Call::Allowance => Reply::Number(space.allowance()),
+        Call::Layer => Reply::Number(u64::from(space.layer())),
+        Call::Held => Reply::Number(u64::from(space.held())),
+        Call::Commit(alternative) => {
+            space.commit(alternative)?;
+            Reply::Done
+        }
+        Call::Redo(alternative) => {
+            space.redo(alternative)?;
+            Reply::Done
+        }
+        Call::Mark => {
+            space.mark()?;
+            Reply::Done
+        }
+        Call::Restore => {
+            space.restore()?;
+            Reply::Done
+        }
+        Call::Forget => {
+            space.forget()?;
+            Reply::Done
+        }
         Call::Reset => {
             space.reset();
-            Answer::Done
+            Reply::Done
         }
-    }
+    })
 }
 
 /// Makes a list of calls, one after the other, and gives the answers. They are those of the plain space that the space
@@ -59,8 +57,9 @@ pub fn replay<S: Space>(
     space: &mut S,
     calls: &[Call],
 ) -> Result<Vec<Answer<S::Cost>>, AllocError>
-    ensures { S.Space.sound space.old → MatchResult result (λ answers. AnswersAsPlain (S.Space.meaning space.old) calls.now answers.items (S.Space.meaning space.new)) (λ _. S.Space.meaning space.new ≡ S.Space.meaning space.old) × S.Space.sound space.new }
+    ensures { MatchResult result (λ answers. AnswersAsPlain (S.Space.meaning space.old) calls.now answers.items (S.Space.meaning space.new)) (λ _. S.Space.meaning space.new ≡ S.Space.meaning space.old) }
 {
+    // A loop, not `collect`, which does not promise that no call is made where its memory fails.
     let mut answers = Vec::with_capacity(heap, calls.len())?;
     for call in calls {
         answers.push_reserved(ask(space, *call));

@@ -1,5 +1,6 @@
 mod Caps
-mod Cuts
+mod Names
+mod Taken
 mod Fields
 mod Stacked
 mod Scripted

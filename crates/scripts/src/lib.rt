@@ -2,7 +2,6 @@
 #![tactic(auto)]
 
 mod numbers;
-mod parts;
 pub mod script;
 pub mod stack;
 

@@ -8,11 +8,7 @@ const LIMIT: u64 = 1_000_000_000_000;
 fn digit(byte: u8) -> Option<u8>
     ensures { result ≡ digit_of byte }
 {
-    if byte.is_ascii_digit() {
-        Some(byte - b'0')
-    } else {
-        None
-    }
+    byte.is_ascii_digit().then(|| byte - b'0')
 }
 
 /// The number that a text of decimal digits writes, at most a million million; none for any other text.
@@ -20,17 +16,16 @@ pub fn read_number(text: &[u8]) -> Option<u64>
     ensures { result ≡ capped 1000000000000 (value text.now) }
 {
     let mut number: u64 = 0;
-    for x in text {
-        let value = digit(*x)?;
-        number = (number * 10 + u64::from(value)).min(LIMIT);
+    // a loop, since a closure of `try_fold` would have to carry the bound of the number
+    for byte in text {
+        number = (number * 10 + u64::from(digit(*byte)?)).min(LIMIT);
     }
-    if text.is_empty() { None } else { Some(number) }
+    (!text.is_empty()).then_some(number)
 }
 
 /// The same number as a byte: above 255 it counts as 255.
 pub(crate) fn read_byte(text: &[u8]) -> Option<u8>
     ensures { result ≡ capped 255 (value text.now) }
 {
-    let number = read_number(text)?;
-    Some(number.min(255) as u8)
+    read_number(text).map(|number| u8::try_from(number).unwrap_or(u8::MAX))
 }

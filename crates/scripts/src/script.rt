@@ -1,11 +1,10 @@
-ghost use Rattle.std.specs.Prelude.{◌≡◌, ◌++◌, MatchResult, ◌≢◌};
-ghost use Rattle.scripts.specs.Lines.{LineRefused, Refused, Script, call_in, numbered_call, plain_call, reading_of};
-ghost use Rattle.scripts.specs.declared.script.Reading.TheVariants.{Unknown};
+ghost use Rattle.std.specs.Prelude.{◌≡◌, MatchResult};
+ghost use Rattle.scripts.specs.Lines.{Refused, Script, numbered_call, plain_call, reading_of};
+ghost use Rattle.scripts.specs.declared.script.ScriptError.TheVariants.{Memory};
 
 use crate::numbers::read_byte;
-use crate::parts::{Separator, cut, is_same, next_word};
 use runs::calls::Call;
-use std::alloc::Global;
+use std::alloc::{AllocFailed, Global};
 
 /// Why a script is refused: the first line, counted from 1, that is no call, or no memory.
 #[derive(Clone, Copy)]
@@ -14,90 +13,58 @@ pub enum ScriptError {
     Memory,
 }
 
-/// What a line says: nothing, a call, or neither.
-#[derive(Clone, Copy)]
-pub(crate) enum Reading {
-    Empty,
-    Called(Call),
-    Unknown,
+impl<T: Drop> From<AllocFailed<T>> for ScriptError {
+    ghost from_gives = { λ _ r. r ≡ Memory };
+
+    fn from(_e: AllocFailed<T>) -> ScriptError {
+        ScriptError::Memory
+    }
 }
 
 /// The call of one word.
-fn plain_call(word: &[u8]) -> Reading
+fn plain_call(word: &[u8]) -> Option<Call>
     ensures { result ≡ plain_call word.now }
 {
-    if is_same(word, b"status") {
-        Reading::Called(Call::Status)
-    } else if is_same(word, b"bound") {
-        Reading::Called(Call::Bound)
-    } else if is_same(word, b"width") {
-        Reading::Called(Call::Width)
-    } else if is_same(word, b"capacity") {
-        Reading::Called(Call::Capacity)
-    } else if is_same(word, b"allowance") {
-        Reading::Called(Call::Allowance)
-    } else if is_same(word, b"layer") {
-        Reading::Called(Call::Layer)
-    } else if is_same(word, b"held") {
-        Reading::Called(Call::Held)
-    } else if is_same(word, b"mark") {
-        Reading::Called(Call::Mark)
-    } else if is_same(word, b"restore") {
-        Reading::Called(Call::Restore)
-    } else if is_same(word, b"forget") {
-        Reading::Called(Call::Forget)
-    } else if is_same(word, b"reset") {
-        Reading::Called(Call::Reset)
-    } else {
-        Reading::Unknown
+    match word {
+        b"status" => Some(Call::Status),
+        b"bound" => Some(Call::Bound),
+        b"width" => Some(Call::Width),
+        b"capacity" => Some(Call::Capacity),
+        b"allowance" => Some(Call::Allowance),
+        b"layer" => Some(Call::Layer),
+        b"held" => Some(Call::Held),
+        b"mark" => Some(Call::Mark),
+        b"restore" => Some(Call::Restore),
+        b"forget" => Some(Call::Forget),
+        b"reset" => Some(Call::Reset),
+        _ => None,
     }
 }
 
 /// The call of a word and a number.
-fn numbered_call(word: &[u8], number: Option<u8>) -> Reading
+fn numbered_call(word: &[u8], number: u8) -> Option<Call>
     ensures { result ≡ numbered_call word.now number }
 {
-    let Some(n) = number else {
-        return Reading::Unknown;
-    };
-    if is_same(word, b"word") {
-        Reading::Called(Call::Word(n))
-    } else if is_same(word, b"commit") {
-        Reading::Called(Call::Commit(n))
-    } else if is_same(word, b"redo") {
-        Reading::Called(Call::Redo(n))
-    } else {
-        Reading::Unknown
+    match word {
+        b"word" => Some(Call::Word(number)),
+        b"commit" => Some(Call::Commit(number)),
+        b"redo" => Some(Call::Redo(number)),
+        _ => None,
     }
 }
 
-/// What a line says.
-fn read_line(line: &[u8]) -> Reading
+/// What a line says: no call where it has no word, or one; `None` where it is neither.
+fn read_line(line: &[u8]) -> Option<Option<Call>>
     ensures { result ≡ reading_of line.now }
 {
-    let Some((word, rest)) = next_word(line) else {
-        return Reading::Empty;
-    };
-    let Some((number, rest)) = next_word(rest) else {
-        return plain_call(word);
-    };
-    match next_word(rest) {
-        Some(_) => Reading::Unknown,
-        None => numbered_call(word, read_byte(number)),
-    }
-}
-
-/// Adds the call of a line, if it says one.
-fn add_line(calls: &mut Vec<Call>, line: &[u8], number: usize) -> Result<(), ScriptError>
-    ensures { MatchResult result (λ _. (reading_of line.now ≢ Unknown) × (calls.new.items ≡ calls.old.items ++ call_in (reading_of line.now))) (λ e. LineRefused (reading_of line.now) number e) }
-{
-    match read_line(line) {
-        Reading::Empty => Ok(()),
-        Reading::Called(call) => match calls.push(call) {
-            Ok(()) => Ok(()),
-            Err(_) => Err(ScriptError::Memory),
-        },
-        Reading::Unknown => Err(ScriptError::Line(number)),
+    let mut words = line
+        .split(|byte| matches!(byte, b' ' | b'\t' | b'\r'))
+        .filter(|word| !word.is_empty());
+    match (words.next(), words.next(), words.next()) {
+        (None, ..) => Some(None),
+        (Some(word), None, _) => plain_call(word).map(Some),
+        (Some(word), Some(number), None) => numbered_call(word, read_byte(number)?).map(Some),
+        _ => None,
     }
 }
 
@@ -108,15 +75,10 @@ pub fn read_script(heap: Global, text: &[u8]) -> Result<Vec<Call>, ScriptError>
     ensures { MatchResult result (λ calls. Script text.now calls.items) (λ e. Refused text.now e) }
 {
     let mut calls = Vec::new(heap);
-    let mut rest = text;
-    let mut before: usize = 0;
-    loop {
-        let (line, more) = cut(rest, Separator::LineEnd);
-        add_line(&mut calls, line, before + 1)?;
-        let Some(next) = more else {
-            return Ok(calls);
-        };
-        rest = next;
-        before += 1;
+    for (before, line) in text.split(|byte| *byte == b'\n').enumerate() {
+        if let Some(call) = read_line(line).ok_or(ScriptError::Line(before + 1))? {
+            calls.push(call)?;
+        }
     }
+    Ok(calls)
 }

@@ -1,13 +1,13 @@
 ghost use Rattle.std.specs.Prelude.{◌≡◌};
-ghost use Rattle.std.specs.Option.{option_map};
-ghost use Rattle.scripts.specs.declared.parts.Separator.TheVariants.{Slash};
-ghost use Rattle.scripts.specs.Parts.{split_rest};
 ghost use Rattle.scripts.specs.Stacks.{numbered_part, part_of, plain_part, stack_of, stands_on_bare, with_layer};
 
 use crate::numbers::read_byte;
-use crate::parts::{Separator, cut, is_same};
 use stacks::kinds::{Above, Base, Stack};
 
+/// The part that stands for the space itself.
+const BARE: &[u8] = b"bare";
+
+// Not an `Option` or a `Result`: a layer is as good an answer as a base.
 /// One part of the text of a stack: a recomputing layer with its gap, or the base.
 #[derive(Clone, Copy)]
 pub(crate) enum Part {
@@ -16,20 +16,14 @@ pub(crate) enum Part {
 }
 
 /// The part with this name and this number.
-fn numbered_part(name: &[u8], number: Option<u8>) -> Option<Part>
+fn numbered_part(name: &[u8], number: u8) -> Option<Part>
     ensures { result ≡ numbered_part name.now number }
 {
-    let Some(n) = number else {
-        return None;
-    };
-    if is_same(name, b"recomputing") {
-        Some(Part::Layer(n))
-    } else if is_same(name, b"copying") {
-        Some(Part::Ground(Base::Copying(n)))
-    } else if is_same(name, b"trailing") {
-        Some(Part::Ground(Base::Trailing(n)))
-    } else {
-        None
+    match name {
+        b"recomputing" => Some(Part::Layer(number)),
+        b"copying" => Some(Part::Ground(Base::Copying(number))),
+        b"trailing" => Some(Part::Ground(Base::Trailing(number))),
+        _ => None,
     }
 }
 
@@ -37,25 +31,18 @@ fn numbered_part(name: &[u8], number: Option<u8>) -> Option<Part>
 fn plain_part(name: &[u8]) -> Option<Part>
     ensures { result ≡ plain_part name.now }
 {
-    if is_same(name, b"bare") {
-        Some(Part::Ground(Base::Bare))
-    } else {
-        None
-    }
+    (name == BARE).then_some(Part::Ground(Base::Bare))
 }
 
 /// One part of the text of a stack.
 fn read_part(text: &[u8]) -> Option<Part>
     ensures { result ≡ part_of text.now }
 {
-    let (name, rest) = cut(text, Separator::Colon);
-    let Some(rest) = rest else {
-        return plain_part(name);
-    };
-    let (number, more) = cut(rest, Separator::Colon);
-    match more {
-        Some(_) => None,
-        None => numbered_part(name, read_byte(number)),
+    let mut fields = text.split(|byte| *byte == b':');
+    match (fields.next(), fields.next(), fields.next()) {
+        (Some(name), None, _) => plain_part(name),
+        (Some(name), Some(number), None) => numbered_part(name, read_byte(number)?),
+        _ => None,
     }
 }
 
@@ -75,25 +62,7 @@ fn with_layer(above: Above, gap: u8) -> Option<Above>
 fn stands_on_bare(base: Base) -> bool
     ensures { result ≡ stands_on_bare base }
 {
-    match base {
-        Base::Bare => false,
-        Base::Copying(_) => true,
-        Base::Trailing(_) => true,
-    }
-}
-
-/// Whether the text may end so: nothing follows the base but the bare one that it stands on.
-fn ends(base: Base, rest: Option<&[u8]>) -> bool
-    ensures { result ≡ Rattle.scripts.specs.Stacks.ends base (split_rest Slash (option_map (λ x. x.now) rest.entry)) }
-{
-    let Some(rest) = rest else {
-        return true;
-    };
-    let (part, more) = cut(rest, Separator::Slash);
-    match more {
-        Some(_) => false,
-        None => is_same(part, b"bare") && stands_on_bare(base),
-    }
+    matches!(base, Base::Copying(_) | Base::Trailing(_))
 }
 
 /// The stack that a text writes, its parts between slashes, the topmost first: up to three times `recomputing:N`, then
@@ -103,23 +72,22 @@ pub fn read_stack(text: &[u8]) -> Option<Stack>
     ensures { result ≡ stack_of text.now }
 {
     let mut above = Above::Nothing;
-    let mut rest = text;
-    loop {
-        let (part, more) = cut(rest, Separator::Slash);
+    let mut parts = text.split(|byte| *byte == b'/');
+    while let Some(part) = parts.next() {
         match read_part(part)? {
             Part::Layer(gap) => above = with_layer(above, gap)?,
-            Part::Ground(base) => return if ends(base, more) {
-                Some(Stack { base, above })
-            } else {
-                None
-            },
+            Part::Ground(base) => {
+                let ends = match (parts.next(), parts.next()) {
+                    (None, _) => true,
+                    (Some(last), None) => last == BARE && stands_on_bare(base),
+                    _ => false,
+                };
+                return ends.then_some(Stack { base, above });
+            }
         }
-        let Some(below) = more else {
-            return Some(Stack {
-                base: Base::Bare,
-                above,
-            });
-        };
-        rest = below;
     }
+    Some(Stack {
+        base: Base::Bare,
+        above,
+    })
 }

@@ -1,11 +1,11 @@
-use Rattle.std.proofs.Common.{◌≡◌, ℕ, ◌≤◌, Bool, true, false, cond, eqb, ltb, leb, length, Ok, Err, Result, refl, ap, ◌∙◌, arith}
-use Rattle.std.proofs.lemmas.Bool.{leb-true, le-leb}
+use Rattle.std.proofs.Common.{◌≡◌, ℕ, ◌+◌, ◌≤◌, Bool, true, false, cond, eqb, ltb, leb, length, Ok, Err, Result, refl, ap, ◌∙◌, arith}
+use Rattle.std.proofs.lemmas.Bool.{leb-true, le-leb, eqb-false}
 use Rattle.trees.specs.declared.Status.{Status}
 use Rattle.trees.specs.declared.Status.TheVariants.{Failed, Solved, Choice}
 use Rattle.space.specs.declared.refusal.Refusal.{Refusal}
 use Rattle.space.specs.declared.refusal.Refusal.TheVariants.{NotChoice, Alternative, Allowance, Capacity}
 use Rattle.space.specs.Meaning.{Meaning, is_choice, moved, spent, status_now}
-use Rattle.space.specs.Calls.{Commits, Redoes, done, commit_answer, redo_answer, mark_answer}
+use Rattle.space.specs.Calls.{Commits, Redoes, Spends, done, commit_answer, redo_answer, mark_answer}
 
 -- the test of a choice node tells its choice
 pub choice_of : (s : Status) → is_choice s ≡ true → (c : ℕ × ℕ) × (s ≡ Choice c)
@@ -25,6 +25,12 @@ second_test : (b d : Bool) (x : Result (Unit {0}) Refusal) → done (cond b (con
 second_test b true x h = refl
 second_test true false x h = cc
 second_test false false x h = cc
+
+third_test : (b d e : Bool) (l : ℕ) → done (cond b (cond d (cond e (Err (Allowance l)) (Ok tt)) (Err Alternative)) (Err NotChoice)) ≡ true → e ≡ false
+third_test true true false l h = refl
+third_test true true true l h = cc
+third_test true false e l h = cc
+third_test false d e l h = cc
 
 both_tests : (b d : Bool) (x : Result (Unit {0}) Refusal) → b ≡ true → d ≡ true → cond b (cond d x (Err Alternative)) (Err NotChoice) ≡ x
 both_tests b d x h k = rw (h, k) refl
@@ -66,3 +72,11 @@ module _ {N C : Type 0} where
 
   pub redo_taken : (m n : Meaning N C) (a : ℕ) → Ok tt ≡ redo_answer m a → n ≡ moved m a → Redoes m a (Ok tt) n
   redo_taken m n a h e = (h, e ∙ ap (λ (r : Result (Unit {0}) Refusal). cond (done r) (moved m a) m) h)
+
+  -- a commit that is done lowers the allowance by one, and a refused one leaves it
+  pub commits_spend : (m n : Meaning N C) (a : ℕ) (r : Result (Unit {0}) Refusal) → Commits m a r n → Spends m r n
+  commits_spend m n a r c = rw (c.0, c.1) (spend (done (commit_answer m a)) refl)
+    where
+      spend : (b : Bool) → done (commit_answer m a) ≡ b → (cond b (spent (moved m a)) m).allowance + cond b 1 0 ≤ m.allowance
+      spend true h = omega (arith, eqb-false m.allowance 0 (third_test (is_choice (status_now m)) (leb a 1) (eqb m.allowance 0) m.commit_layer h))
+      spend false h = omega arith

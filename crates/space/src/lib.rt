@@ -4,22 +4,25 @@
 ghost use Rattle.std.specs.Prelude.{◌≡◌, ℕ, ◌≤◌, Bool, List, length};
 ghost use Rattle.space.specs.Meaning.{Meaning, status_now, fresh};
 ghost use Rattle.space.specs.Laws.{Lawful, NamedByWords};
-ghost use Rattle.space.specs.Calls.{Commits, Redoes, Marks, Restores, Forgets, Spends, Sets, word_answer, bound_answer};
+ghost use Rattle.space.specs.Calls.{Commits, Redoes, Marks, Restores, Forgets, Sets, word_answer, bound_answer};
 
 use refusal::Refusal;
 use trees::Status;
 
 pub mod refusal;
+mod text;
 
 /// A space: a tree, a current node in it, and held nodes to go back to.
 ///
-/// Each call answers, and changes, as the plain space does that the space means; a refused call changes nothing. This
-/// is promised of every space that is `sound`, as every maker's is and every call leaves it.
+/// Each call answers, and changes, as the plain space does that the space means; a refused call changes nothing.
 pub trait Space {
     type Cost: Copy;
 
     // the nodes of this maker's tree
     ghost Place: { Type 0 };
+
+    // two nodes are equal in one way at most, so that a layer can keep it as a fact that they are
+    ghost places: { IsSet Place };
 
     // the plain space that a space stands for
     ghost meaning: { Self → Meaning Place Self.Cost };
@@ -30,16 +33,13 @@ pub trait Space {
     // the node that has these words, in a loadable space; no other space says anything of it
     ghost named: { List ℕ → Place };
 
-    // that the parts of a space agree
-    ghost sound: { Self → Type 0 };
-
     /// The status of the current node.
     fn status(&self) -> Status
-        ensures { sound self.now → result ≡ status_now (meaning self.now) };
+        ensures { result ≡ status_now (meaning self.now) };
 
     /// The bound of the current node; 15 at a failed node.
     fn bound(&self) -> Result<Self::Cost, Refusal>
-        ensures { sound self.now → result ≡ bound_answer (meaning self.now) };
+        ensures { result ≡ bound_answer (meaning self.now) };
 
     /// Whether a cost is less than another.
     fn less(a: Self::Cost, b: Self::Cost) -> bool
@@ -47,16 +47,16 @@ pub trait Space {
 
     /// Word `i` of the current node; 11 from the width on.
     fn word(&self, i: u8) -> Result<u32, Refusal>
-        ensures { sound self.now → result ≡ word_answer (meaning self.now) i };
+        ensures { result ≡ word_answer (meaning self.now) i };
 
     /// The number of words of a node.
     fn width(&self) -> u8
-        ensures value { sound self.now → result ≡ (meaning self.now).width }
+        ensures value { result ≡ (meaning self.now).width }
         ensures high { result ≤ 32 };
 
     /// How many nodes can be held.
     fn capacity(&self) -> u8
-        ensures { sound self.now → result ≡ (meaning self.now).capacity };
+        ensures { result ≡ (meaning self.now).capacity };
 
     /// How many commits are left.
     fn allowance(&self) -> u64
@@ -64,51 +64,45 @@ pub trait Space {
 
     /// The number of the topmost layer; 0 for a space without layers.
     fn layer(&self) -> u8
-        ensures { sound self.now → result ≡ (meaning self.now).layer };
+        ensures { result ≡ (meaning self.now).layer };
 
     /// How many nodes are held.
     fn held(&self) -> u8
-        ensures { sound self.now → result ≡ length (meaning self.now).held };
+        ensures { result ≡ length (meaning self.now).held };
 
+    // an alternative stays a number, since one above 1 is refused by 13
     /// Steps to the child for an alternative, and lowers the allowance by one; 12, 13 or 14.
     fn commit(&mut self, alternative: u8) -> Result<(), Refusal>
-        ensures means { sound self.old → Commits (meaning self.old) alternative result (meaning self.new) × sound self.new }
-        ensures spends { Spends (meaning self.old) result (meaning self.new) };
+        ensures { Commits (meaning self.old) alternative result (meaning self.new) };
 
     /// Steps to the child for an alternative; 12 or 13.
     fn redo(&mut self, alternative: u8) -> Result<(), Refusal>
-        ensures means { sound self.old → Redoes (meaning self.old) alternative result (meaning self.new) × sound self.new }
-        ensures spends { (meaning self.new).allowance ≤ (meaning self.old).allowance };
+        ensures { Redoes (meaning self.old) alternative result (meaning self.new) };
 
     /// Holds the current node as the newest; 16.
     fn mark(&mut self) -> Result<(), Refusal>
-        ensures means { sound self.old → Marks (meaning self.old) result (meaning self.new) × sound self.new }
-        ensures spends { (meaning self.new).allowance ≤ (meaning self.old).allowance };
+        ensures { Marks (meaning self.old) result (meaning self.new) };
 
     /// Makes the newest held node current, and keeps it held; 17.
     fn restore(&mut self) -> Result<(), Refusal>
-        ensures means { sound self.old → Restores (meaning self.old) result (meaning self.new) × sound self.new }
-        ensures spends { (meaning self.new).allowance ≤ (meaning self.old).allowance };
+        ensures { Restores (meaning self.old) result (meaning self.new) };
 
     /// Takes the newest held node off; 17.
     fn forget(&mut self) -> Result<(), Refusal>
-        ensures means { sound self.old → Forgets (meaning self.old) result (meaning self.new) × sound self.new }
-        ensures spends { (meaning self.new).allowance ≤ (meaning self.old).allowance };
+        ensures { Forgets (meaning self.old) result (meaning self.new) };
 
     /// Makes the root current, and holds nothing.
     fn reset(&mut self)
-        ensures means { sound self.old → (meaning self.new ≡ fresh (meaning self.old)) × sound self.new }
-        ensures spends { (meaning self.new).allowance ≤ (meaning self.old).allowance };
+        ensures { meaning self.new ≡ fresh (meaning self.old) };
 
-    ghost lawful: { (s : Self) → sound s → Lawful (meaning s) less };
+    ghost lawful: { (s : Self) → Lawful (meaning s) less };
 }
 
 /// A space whose nodes are their words and nothing else, so that a node can be put back word by word.
 pub trait Loadable: Space {
     /// Sets word `i` of the current node to any 32 bits; 11 from the width on.
     fn set(&mut self, i: u8, word: u32) -> Result<(), Refusal>
-        ensures means { Self.Space.sound self.old → Sets (Self.Space.meaning self.old) i word result (Self.Space.meaning self.new) × Self.Space.sound self.new }
-        ensures spends { (Self.Space.meaning self.new).allowance ≤ (Self.Space.meaning self.old).allowance };
+        ensures { Sets (Self.Space.meaning self.old) i word result (Self.Space.meaning self.new) };
 
-    ghost only: { (s : Self) → Self.Space.sound s → NamedByWords (Self.Space.meaning s).tree Self.Space.named };
+    ghost only: { (s : Self) → NamedByWords (Self.Space.meaning s).tree Self.Space.named };
 }

@@ -21,6 +21,7 @@ pub enum Refusal {
 }
 
 impl Refusal {
+    // a `match`, and no cast as for causes of files: two of the variants carry a layer
     /// The refusal's number, 11 to 17.
     pub fn number(&self) -> u8
         ensures { result ≡ number self.now }

@@ -7,6 +7,7 @@ pub enum Base {
 }
 
 /// The recomputing layers over the base, by their gaps, the topmost first.
+// Variants, not a list of gaps: a layer is a type around the space below, so each height is a type of its own.
 #[derive(Clone, Copy)]
 pub enum Above {
     Nothing,

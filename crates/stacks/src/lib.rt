@@ -6,15 +6,30 @@ ghost use Rattle.runs.specs.Runs.{replies};
 ghost use Rattle.stacks.specs.Stacks.{above_over, stack_over};
 
 use copying::Copying;
+use copying::copies::Copies;
 use kinds::{Above, Base, Stack};
 use recomputing::Recomputing;
+use recomputing::route::Route;
 use runs::calls::{Answer, Call};
 use runs::replay;
 use space::{Loadable, Space};
 use std::alloc::{AllocError, Global};
 use trailing::Trailing;
+use trailing::changes::Changes;
 
 pub mod kinds;
+pub mod request;
+
+/// Makes a list of calls on a space that is not used again.
+fn replay_on<S: Space + Drop>(
+    heap: Global,
+    mut space: S,
+    calls: &[Call],
+) -> Result<Vec<Answer<S::Cost>>, AllocError>
+    ensures { IfOk result (λ answers. answers.items ≡ replies (S.Space.meaning space) calls.now) }
+{
+    replay(heap, &mut space, calls)
+}
 
 /// Makes a list of calls on recomputing layers over any space, of any maker. Each answer is the one that the stack's plain
 /// space gives.
@@ -24,28 +39,27 @@ pub fn replay_above<S: Space + Drop>(
     above: Above,
     calls: &[Call],
 ) -> Result<Vec<Answer<S::Cost>>, AllocError>
-    ensures { S.Space.sound space → IfOk result (λ answers. answers.items ≡ replies (above_over above (S.Space.meaning space)) calls.now) }
+    ensures { IfOk result (λ answers. answers.items ≡ replies (above_over above (S.Space.meaning space)) calls.now) }
 {
     match above {
-        Above::Nothing => {
-            let mut space = space;
-            replay(heap, &mut space, calls)
-        }
-        Above::One(gap) => {
-            let mut stack = Recomputing::new(space, gap);
-            replay(heap, &mut stack, calls)
-        }
-        Above::Two(gap, second) => {
-            let mut stack = Recomputing::new(Recomputing::new(space, second), gap);
-            replay(heap, &mut stack, calls)
-        }
-        Above::Three(gap, second, third) => {
-            let mut stack = Recomputing::new(
-                Recomputing::new(Recomputing::new(space, third), second),
-                gap,
-            );
-            replay(heap, &mut stack, calls)
-        }
+        Above::Nothing => replay_on(heap, space, calls),
+        Above::One(gap) => replay_on(heap, Recomputing::new(space, Route::new(gap)), calls),
+        Above::Two(gap, second) => replay_on(
+            heap,
+            Recomputing::new(Recomputing::new(space, Route::new(second)), Route::new(gap)),
+            calls,
+        ),
+        Above::Three(gap, second, third) => replay_on(
+            heap,
+            Recomputing::new(
+                Recomputing::new(
+                    Recomputing::new(space, Route::new(third)),
+                    Route::new(second),
+                ),
+                Route::new(gap),
+            ),
+            calls,
+        ),
     }
 }
 
@@ -57,19 +71,19 @@ pub fn replay_stack<S: Loadable + Drop>(
     stack: Stack,
     calls: &[Call],
 ) -> Result<Vec<Answer<S::Cost>>, AllocError>
-    ensures { S.Space.sound space → IfOk result (λ answers. answers.items ≡ replies (stack_over stack (S.Space.meaning space)) calls.now) }
+    ensures { IfOk result (λ answers. answers.items ≡ replies (stack_over stack (S.Space.meaning space)) calls.now) }
 {
     match stack.base {
         Base::Bare => replay_above(heap, space, stack.above, calls),
         Base::Copying(capacity) => replay_above(
             heap,
-            Copying::new(space, capacity),
+            Copying::new(space, Copies::new(capacity)),
             stack.above,
             calls,
         ),
         Base::Trailing(capacity) => replay_above(
             heap,
-            Trailing::new(space, capacity),
+            Trailing::new(space, Changes::new(capacity)),
             stack.above,
             calls,
         ),

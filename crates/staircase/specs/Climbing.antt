@@ -1,13 +1,12 @@
-use Rattle.std.specs.Prelude.{◌≡◌, ℕ, zero, suc, ◌+◌, ◌%◌, ◌<◌, ◌≤◌, Bool, true, false, cond, [], ◌∷◌, length, ◌==◌, ◌≢◌, nat_le, nat_lt, slice_index, refl}
+use Rattle.std.specs.Prelude.{◌≡◌, ℕ, zero, suc, ◌+◌, ◌%◌, ◌<◌, ◌≤◌, Bool, true, false, cond, List, [], ◌∷◌, ◌==◌, ◌≢◌, nat_le, nat_lt, slice_index, refl}
 use Rattle.std.proofs.Common.{arith}
+use Rattle.std.proofs.lemmas.List.{length-reverse}
 use Rattle.std.proofs.lemmas.Bool.{ltb-true, ltb-false, leb-true, eqb-true, eqb-false, lt-ltb, le-ltb, le-leb}
 use Rattle.trees.specs.Trees.{Chooses, Orderly, StrictOrder}
 use Rattle.trees.specs.declared.Status.TheVariants.{Failed, Solved, Choice}
 use Rattle.space.specs.Laws.{Lawful}
 use Rattle.staircase.specs.declared.stair.Stair.{Stair}
-use Rattle.staircase.specs.declared.stair.Held.{Held}
-use Rattle.staircase.specs.declared.stair.Held.TheVariants.{Nothing, One, Two}
-use Rattle.staircase.specs.Stairs.{stair_status, climbed, staircase, held_stairs, standing, Stands}
+use Rattle.staircase.specs.Stairs.{stair_status, climbed, staircase, standing, Stands}
 
 -- a choice is passed on by both tests, and a solved stair by the first
 chosen : (b d : Bool) (x c : ℕ × ℕ) → cond b Solved (cond d Failed (Choice x)) ≡ Choice c → b ≡ false
@@ -61,13 +60,8 @@ climbing = record {
   ordered = counts_ordered;
 }
 
-few_held : (k : Held) → length (held_stairs k) ≤ 2
-few_held Nothing = omega arith
-few_held (One n) = omega arith
-few_held (Two n o) = omega arith
-
-pub lawful : (n : Stair) (k : Held) (allowance : ℕ) → Stands n k allowance → Lawful (standing n k allowance) nat_lt
-lawful n k allowance s = record {
+pub lawful : (n : Stair) (held : List Stair) (allowance : ℕ) → Stands n held allowance → Lawful (standing n held allowance) nat_lt
+lawful n held allowance s = record {
   orderly = climbing;
   priced = λ n p h. omega (arith, at_top n h);
   current = s.0;
@@ -75,7 +69,7 @@ lawful n k allowance s = record {
   low = omega arith;
   high = omega arith;
   capacity = omega arith;
-  held = few_held k;
-  allowance = s.2;
+  held = omega (arith, length-reverse held, s.2);
+  allowance = s.3;
   layer = omega arith;
 }

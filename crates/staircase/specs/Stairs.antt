@@ -1,4 +1,5 @@
-use Rattle.std.specs.Prelude.{◌≡◌, ℕ, ◌+◌, ◌-◌, ◌*◌, ◌%◌, ◌≤◌, true, cond, List, [], ◌∷◌, Ok, Err, Result, ◌==◌, nat_le}
+use Rattle.std.specs.Prelude.{◌≡◌, ℕ, ◌+◌, ◌-◌, ◌*◌, ◌%◌, ◌≤◌, true, cond, List, [], ◌∷◌, length, reverse, Ok, Err, Result, ◌==◌, nat_le}
+use Rattle.std.proofs.Props.{props}
 use Rattle.trees.specs.Trees.{Tree}
 use Rattle.trees.specs.declared.Status.{Status}
 use Rattle.trees.specs.declared.Status.TheVariants.{Failed, Solved, Choice}
@@ -6,9 +7,8 @@ use Rattle.space.specs.declared.refusal.Refusal.{Refusal}
 use Rattle.space.specs.declared.refusal.Refusal.TheVariants.{NotChoice, Alternative}
 use Rattle.space.specs.Meaning.{Meaning, is_choice}
 use Rattle.space.specs.Laws.{AllProper}
+use Rattle.space.specs.Facts.{all_proper_prop}
 use Rattle.staircase.specs.declared.stair.Stair.{Stair}
-use Rattle.staircase.specs.declared.stair.Held.{Held}
-use Rattle.staircase.specs.declared.stair.Held.TheVariants.{Nothing, One, Two}
 
 -- the foot of the staircase: ten stairs to climb, and no step taken
 abbrev pub foot : Stair
@@ -40,20 +40,14 @@ staircase = record {
 abbrev pub climb_answer : Stair → ℕ → Result Stair Refusal
 climb_answer n a = cond (is_choice (stair_status n)) (cond (nat_le a 1) (Ok (climbed n a)) (Err Alternative)) (Err NotChoice)
 
--- the held stairs, the newest first
-abbrev pub held_stairs : Held → List Stair
-held_stairs Nothing = []
-held_stairs (One n) = n ∷ []
-held_stairs (Two n o) = n ∷ (o ∷ [])
-
--- what a staircase means: it holds up to two stairs itself
-abbrev pub standing : Stair → Held → ℕ → Meaning Stair ℕ
+-- what a staircase means: it holds up to two stairs itself, of which the newest is the last in the list
+abbrev pub standing : Stair → List Stair → ℕ → Meaning Stair ℕ
 standing current held allowance = record {
   tree = staircase;
   cost = λ n. 3 * n.steps;
   width = 1;
   current = current;
-  held = held_stairs held;
+  held = reverse held;
   capacity = 2;
   allowance = allowance;
   layer = 0;
@@ -62,5 +56,8 @@ standing current held allowance = record {
 }
 
 -- the current stair and the held ones are on the staircase, and the allowance is within its limit
-abbrev pub Stands : Stair → Held → ℕ → Type 0
-Stands current held allowance = (staircase.proper current ≡ true) × AllProper staircase (held_stairs held) × (allowance ≤ 1000000000000)
+abbrev pub Stands : Stair → List Stair → ℕ → Type 0
+Stands current held allowance = (staircase.proper current ≡ true) × AllProper staircase (reverse held) × (length held ≤ 2) × (allowance ≤ 1000000000000)
+
+pub stands_prop : (current : Stair) (held : List Stair) (allowance : ℕ) → IsProp (Stands current held allowance)
+stands_prop current held allowance = hlevel (props, all_proper_prop)

@@ -1,15 +1,16 @@
 //! A staircase: a space of its own make, whose nodes are more than their words, and which holds two nodes itself.
 #![tactic(auto)]
 
-ghost use Rattle.std.specs.Prelude.{◌≡◌, min, nat_lt};
+ghost use Rattle.std.specs.Prelude.{◌≡◌, [], min, nat_lt};
+ghost use Rattle.std.proofs.Props.{props};
 ghost use Rattle.staircase.specs.declared.stair.Stair.{Stair};
-ghost use Rattle.staircase.specs.declared.stair.Held.TheVariants.{Nothing};
-ghost use Rattle.staircase.specs.Stairs.{foot, standing, Stands};
+ghost use Rattle.staircase.specs.Stairs.{foot, standing, Stands, stands_prop};
 ghost use Rattle.staircase.specs.Climbing;
 
+use arrayvec::ArrayVec;
 use space::Space;
 use space::refusal::Refusal;
-use stair::{Held, START, Stair};
+use stair::{START, Stair};
 use trees::Status;
 
 mod stair;
@@ -21,19 +22,20 @@ const LIMIT: u64 = 1_000_000_000_000;
 #[derive(Drop)]
 pub struct Staircase {
     current: Stair,
-    held: Held,
+    // the held stairs, the newest last
+    held: ArrayVec<Stair, 2>,
     allowance: u64,
+    ghost stands: { Stands current held.items allowance } by { stands_prop current held.items allowance },
 }
 
 impl Staircase {
     /// A climber at the foot; an allowance above 1,000,000,000,000 counts as that.
     pub fn new(allowance: u64) -> Staircase
-        ensures means { standing result.current result.held result.allowance ≡ standing foot Nothing (min allowance 1000000000000) }
-        ensures sound { Stands result.current result.held result.allowance }
+        ensures { standing result.current result.held.items result.allowance ≡ standing foot [] (min allowance 1000000000000) }
     {
         Staircase {
             current: START,
-            held: Held::Nothing,
+            held: ArrayVec::new(),
             allowance: allowance.min(LIMIT),
         }
     }
@@ -44,15 +46,15 @@ impl Space for Staircase {
 
     ghost Place = { Stair };
 
-    ghost meaning = { λ s. standing s.current s.held s.allowance };
+    ghost places = { Prim.hlevel props };
+
+    ghost meaning = { λ s. standing s.current s.held.items s.allowance };
 
     ghost less = { nat_lt };
 
     ghost named = { λ _. foot };
 
-    ghost sound = { λ s. Stands s.current s.held s.allowance };
-
-    ghost lawful = { λ s w. Climbing.lawful s.current s.held s.allowance w };
+    ghost lawful = { λ s. Climbing.lawful s.current s.held.items s.allowance s.stands };
 
     fn status(&self) -> Status {
         self.current.status()
@@ -96,11 +98,7 @@ impl Space for Staircase {
     }
 
     fn held(&self) -> u8 {
-        match self.held {
-            Held::Nothing => 0,
-            Held::One(_) => 1,
-            Held::Two(_, _) => 2,
-        }
+        self.held.len() as u8
     }
 
     fn commit(&mut self, alternative: u8) -> Result<(), Refusal> {
@@ -119,45 +117,25 @@ impl Space for Staircase {
     }
 
     fn mark(&mut self) -> Result<(), Refusal> {
-        match self.held {
-            Held::Nothing => {
-                self.held = Held::One(self.current);
-                Ok(())
-            }
-            Held::One(older) => {
-                self.held = Held::Two(self.current, older);
-                Ok(())
-            }
-            Held::Two(_, _) => Err(Refusal::Capacity(0)),
+        if self.held.is_full() {
+            return Err(Refusal::Capacity(0));
         }
+        self.held.push(self.current);
+        Ok(())
     }
 
     fn restore(&mut self) -> Result<(), Refusal> {
-        match self.held {
-            Held::Nothing => Err(Refusal::NothingHeld),
-            Held::One(newest) | Held::Two(newest, _) => {
-                self.current = newest;
-                Ok(())
-            }
-        }
+        self.current = *self.held.last().ok_or(Refusal::NothingHeld)?;
+        Ok(())
     }
 
     fn forget(&mut self) -> Result<(), Refusal> {
-        match self.held {
-            Held::Nothing => Err(Refusal::NothingHeld),
-            Held::One(_) => {
-                self.held = Held::Nothing;
-                Ok(())
-            }
-            Held::Two(_, older) => {
-                self.held = Held::One(older);
-                Ok(())
-            }
-        }
+        self.held.pop().ok_or(Refusal::NothingHeld)?;
+        Ok(())
     }
 
     fn reset(&mut self) {
         self.current = START;
-        self.held = Held::Nothing;
+        self.held.clear();
     }
 }

@@ -5,7 +5,7 @@ use space::refusal::Refusal;
 use trees::Status;
 
 /// A stair: how many are left to climb from it, and how many steps were taken to it.
-#[derive(Clone, Copy)]
+#[derive(Clone, Copy, Default)]
 pub struct Stair {
     pub height: u8,
     pub steps: u8,
@@ -16,14 +16,6 @@ pub const START: Stair = Stair {
     height: 10,
     steps: 0,
 };
-
-/// The held stairs, the newest first.
-#[derive(Clone, Copy)]
-pub enum Held {
-    Nothing,
-    One(Stair),
-    Two(Stair, Stair),
-}
 
 impl Stair {
     /// Solved at the top, failed below it after eight steps.

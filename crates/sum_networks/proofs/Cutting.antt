@@ -1,11 +1,10 @@
-use Rattle.std.proofs.Common.{◌≡◌, ℕ, zero, suc, ◌+◌, ◌^◌, ◌<◌, ◌≤◌, Bool, true, false, cond, ◌&&◌, ltb, List, length, get_or, set, replicate, ℤ, pos, negsuc, ◌+ℤ◌, ◌-ℤ◌, ◌*ℤ◌, ◌≤ℤ◌, sym, refl, ap, ◌∙◌, subst, inl, inr, add-zero, add-one, arith, w64, to_z, of_z}
+use Rattle.std.proofs.Common.{◌≡◌, ℕ, zero, suc, ◌+◌, ◌^◌, ◌<◌, ◌≤◌, Bool, true, false, cond, ◌&&◌, ltb, List, length, get_or, set, ℤ, pos, negsuc, ◌+ℤ◌, ◌-ℤ◌, ◌*ℤ◌, ◌≤ℤ◌, sym, refl, ap, ◌∙◌, subst, inl, inr, add-zero, add-one, arith, w64, to_z, of_z}
 use lib.Signed.{le_z}
 use lib.Bits.{bit_or}
-use Rattle.std.proofs.lemmas.List.{get_or-set_same, get_or-set_other, length-set, ext_get_or}
+use Rattle.std.proofs.lemmas.List.{get_or-set_same, get_or-set_other, length-set, ext_get_or, get_or_past}
 use Rattle.std.proofs.lemmas.Nat.{or_comm}
-use Rattle.std.proofs.lemmas.Bool.Decides.{nat_tests}
 use Rattle.std.proofs.lemmas.Int.{ints, to_z-of_z}
-use Rattle.std.proofs.lemmas.Bool.{cases_eq, cases_lt, cases_Bool, both_ways, or_cases, or_parts, and_right, lt-ltb, le-ltb, cond-true, cond-false}
+use Rattle.std.proofs.lemmas.Bool.{cases_eq, cases_lt, cases_Bool, both_ways, or_cases, or_parts, and_right, le-ltb, cond-false}
 use Rattle.words.specs.Words.{bit, has, Change, Proper}
 use Rattle.nodes.specs.Choosing.{Filled, Empty}
 use Rattle.words.proofs.Bit.{bit_of_or, bit_zero}
@@ -134,13 +133,6 @@ pub mask_no : (s : Sum) (i t : ℕ) → t ≡ mask s i → s.coefficient i ≡ p
 unfolding mask
 mask_no s i t e z = rw add-one (e ∙ ap (λ (c : ℤ). bit_or (cond (counts c) (2 ^ i) 0) (those (λ j. counts (s.coefficient j)) i)) (sym z))
 
--- entry after entry
-pub filled_more : (f : ℕ → ℕ) (t : List ℕ) (k v : ℕ) → k < length t → v ≡ f k → ((j : ℕ) → j < k → get_or t j 0 ≡ f j) → (j : ℕ) → j < k + 1 → get_or (set t k v) j 0 ≡ f j
-filled_more f t k v l e h j m = elim (cases_eq j k) [
-  | inl q ↦ ap (λ (x : ℕ). get_or (set t k v) x 0) q ∙ get_or-set_same t k v 0 l ∙ e ∙ ap f (sym q)
-  | inr ne ↦ get_or-set_other t k j v 0 ne ∙ h j (omega arith)
-]
-
 -- ---- the start words
 
 length_words : (f : ℕ → ℕ) (k i : ℕ) → length (words f k i) ≡ k
@@ -155,18 +147,10 @@ get_or_words f (suc k) i (suc j) h = get_or_words f k (suc i) j (omega arith) �
 pub start_clear : (w j : ℕ) → w ≤ j → ◌≡◌ {A = ℕ} (cond (ltb j w) 3 0) 0
 start_clear w j h = cond-false (ltb j w) 3 0 (le-ltb j w h)
 
-pub start_none : (k j : ℕ) → ◌≡◌ {A = ℕ} (get_or (replicate k 0) j 0) (cond (ltb j 0) 3 0)
-start_none k j = zeros k j ∙ sym (start_clear 0 j (omega arith))
-  where
-    zeros : (k j : ℕ) → ◌≡◌ {A = ℕ} (get_or (replicate k 0) j 0) 0
-    zeros zero j = refl
-    zeros (suc k) zero = refl
-    zeros (suc k) (suc j) = zeros k j
-
-pub start_more : (ws : List ℕ) (i : ℕ) → i < length ws → ((j : ℕ) → get_or ws j 0 ≡ cond (ltb j i) 3 0) → (j : ℕ) → get_or (set ws i 3) j 0 ≡ cond (ltb j (i + 1)) 3 0
-start_more ws i l h j = elim (cases_eq j i) [
-  | inl e ↦ ap (λ (x : ℕ). get_or (set ws i 3) x 0) e ∙ get_or-set_same ws i 3 0 l ∙ sym (cond-true (ltb j (i + 1)) 3 0 (lt-ltb j (i + 1) (omega arith)))
-  | inr ne ↦ get_or-set_other ws i j 3 0 ne ∙ h j ∙ ap (λ (b : Bool). cond b 3 0) (grind (arith, nat_tests))
+pub start_words : (w : ℕ) (ws : List ℕ) → w ≤ 32 → length ws ≡ 32 → ((i : ℕ) → i < 32 → get_or ws i 0 ≡ cond (ltb i w) 3 0) → (j : ℕ) → get_or ws j 0 ≡ cond (ltb j w) 3 0
+start_words w ws few long each j = elim (cases_lt j 32) [
+  | inl l ↦ each j l
+  | inr g ↦ get_or_past ws j 0 (omega (arith, long)) ∙ sym (start_clear w j (omega arith))
 ]
 
 pub start_done : (bs ws : List ℕ) → length ws ≡ 32 → ((j : ℕ) → get_or ws j 0 ≡ cond (ltb j (sum_width bs)) 3 0) → ws ≡ start_of bs

@@ -3,7 +3,7 @@
 
 mod problem;
 mod products;
-mod reading;
 mod revising;
+mod rows;
 
 pub use problem::Sums;

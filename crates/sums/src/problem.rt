@@ -1,8 +1,8 @@
 //! The problem of a sum file.
-ghost use Rattle.sum_files.specs.Meaning.{sum_bytes_of};
+ghost use Rattle.files.specs.Meaning.{bytes_of};
 ghost use Rattle.sum_networks.specs.Files.{Masks};
 
-use sum_files::SumView;
+use files::SumView;
 
 pub mod calls;
 
@@ -10,6 +10,7 @@ pub mod calls;
 #[derive(Drop)]
 pub struct Sums<'a> {
     view: SumView<'a>,
+    // as many as a file can have, in the value itself: a space uses no heap
     touched: [u32; 64],
-    ghost ok: { Masks (sum_bytes_of view) touched },
+    ghost ok: { Masks (bytes_of view) touched },
 }

@@ -1,71 +1,67 @@
 //! Products of a coefficient with the values of a word.
-ghost use Rattle.std.specs.Prelude.{◌≡◌, ℕ, ◌<◌, ◌≤◌, ℤ, pos, negsuc, ◌*ℤ◌, ◌≤ℤ◌, ◌≢◌};
+ghost use Rattle.std.specs.Prelude.{◌≡◌, ℕ, ◌<◌, ◌≤◌, ℤ, pos, ◌*ℤ◌, ◌≢◌};
 ghost use Rattle.records.specs.Sums.{Small};
-ghost use Rattle.sum_networks.specs.Sums.{largest, smallest_product, product_at};
+ghost use Rattle.sum_networks.specs.Sums.{largest, smallest_product};
 ghost use Rattle.sum_networks.specs.Steps.{Reaching};
 
-use words::{highest, lowest, without};
+use words::{Values, highest, lowest, without};
 
-/// A coefficient times a value.
-pub(crate) fn product(c: i32, value: u32) -> i64
-    requires { (Small c) × (value < 32) }
-    ensures value { result ≡ c *ℤ pos value }
-    ensures low { negsuc 30999999 ≤ℤ result }
-    ensures high { result ≤ℤ pos 31000000 }
-{
-    i64::from(c) * i64::from(value)
+/// A coefficient, which is within its limit.
+#[derive(Drop, Clone, Copy)]
+pub(crate) struct Coefficient {
+    pub(crate) value: i32,
+    ghost small: { Small value },
 }
 
-/// The product at one end of a word, the lower or the upper one.
-fn end_product(c: i32, word: u32, lower: bool) -> i64
-    requires { (word ≢ 0) × (Small c) }
-    ensures value { result ≡ product_at lower c word }
-    ensures low { negsuc 30999999 ≤ℤ result }
-    ensures high { result ≤ℤ pos 31000000 }
-{
-    if lower {
-        product(c, lowest(word))
-    } else {
-        product(c, highest(word))
+// A word that is asked for is not empty: that is tested once for all words of a node, and not again for a type of such words.
+impl Coefficient {
+    /// The product with a value.
+    fn times(self, value: u32) -> i64
+        requires { value < 32 }
+        ensures { result ≡ self.value *ℤ pos value }
+    {
+        i64::from(self.value) * i64::from(value)
     }
-}
 
-/// The largest product of the coefficient with a value of the word.
-pub(crate) fn most(c: i32, word: u32) -> i64
-    requires { (word ≢ 0) × (Small c) }
-    ensures value { result ≡ largest c word }
-    ensures low { negsuc 30999999 ≤ℤ result }
-    ensures high { result ≤ℤ pos 31000000 }
-{
-    end_product(c, word, c < 0)
-}
-
-/// The least product of the coefficient with a value of the word.
-pub(crate) fn least(c: i32, word: u32) -> i64
-    requires { (word ≢ 0) × (Small c) }
-    ensures value { result ≡ smallest_product c word }
-    ensures low { negsuc 30999999 ≤ℤ result }
-    ensures high { result ≤ℤ pos 31000000 }
-{
-    end_product(c, word, c >= 0)
-}
-
-/// The values of the word whose product reaches the need.
-pub(crate) fn reaching(c: i32, word: u32, need: i64) -> u32
-    requires { (word ≢ 0) × (Small c) }
-    ensures { Reaching c word need result }
-{
-    if least(c, word) >= need {
-        return word;
-    }
-    let mut left = word;
-    let mut supported = word;
-    while left != 0 {
-        let value = lowest(left);
-        if product(c, value) < need {
-            supported = without(supported, value);
+    /// The largest product with a value of the word.
+    pub(crate) fn most(self, word: u32) -> i64
+        requires { word ≢ 0 }
+        ensures { result ≡ largest self.value word }
+    {
+        if self.value < 0 {
+            self.times(lowest(word))
+        } else {
+            self.times(highest(word))
         }
-        left = without(left, value);
     }
-    supported
+
+    // not one function with `most`: a parameter that says which end is meant would be no plainer
+    /// The least product with a value of the word.
+    pub(crate) fn least(self, word: u32) -> i64
+        requires { word ≢ 0 }
+        ensures { result ≡ smallest_product self.value word }
+    {
+        if self.value >= 0 {
+            self.times(lowest(word))
+        } else {
+            self.times(highest(word))
+        }
+    }
+
+    /// The values of the word whose product reaches the need.
+    pub(crate) fn reaching(self, word: u32, need: i64) -> u32
+        requires { word ≢ 0 }
+        ensures { Reaching self.value word need result }
+    {
+        if self.least(word) >= need {
+            return word;
+        }
+        let mut supported = word;
+        for value in Values::of(word) {
+            if self.times(value) < need {
+                supported = without(supported, value);
+            }
+        }
+        supported
+    }
 }

@@ -1,22 +1,17 @@
-use Rattle.std.specs.Prelude.{◌≡◌, ℕ, Bool, true, false, cond, List, ℤ, Some, None, Option, Result, MatchResult, int_lt}
+use Rattle.std.specs.Prelude.{◌≡◌, ℕ, Bool, true, false, cond, List, Some, None, Option, Result, MatchResult, int_lt}
+use Rattle.std.specs.Option.{option_map}
 use Rattle.trees.specs.declared.Status.{Status}
 use Rattle.trees.specs.Trees.{Orderly}
 use Rattle.nodes.specs.Choosing.{Says, status, empty_below}
 use Rattle.propagation.specs.Networks.{Network}
 use Rattle.propagation.specs.Closing.{closure}
 use Rattle.problems.specs.Problems.{LeavesSolve, Priced, tree_of}
-use Rattle.records.specs.Checks.{sum_file, table_code, sum_code, LawfulTable, LawfulSum}
+use Rattle.records.specs.Checks.{sum_file, table_code, sum_code, Lawful, LawfulTable, LawfulSum}
 use Rattle.records.specs.Refusals.{Faulty}
-use Rattle.records.specs.Tables.{variable_count, table_count, stops, minutes}
-use Rattle.records.specs.Sums.{sum_width, sum_count}
 use Rattle.records.specs.declared.refusal.Refusal.{Refusal}
 use Rattle.table_networks.specs.Costs as costs
-use Rattle.table_networks.specs.Files as tables
-use Rattle.sum_networks.specs.Files as sums
-use Rattle.answers.specs.declared.Price.{Price}
-use Rattle.answers.specs.declared.Price.TheVariants.{Pair, Total}
-use Rattle.answers.specs.declared.Sort.TheVariants.{Table, Sum}
 use Rattle.answers.specs.declared.Survey.{Survey}
+use Rattle.filed.specs.Meaning.{Reading, table_reading, sum_reading}
 
 -- ---- the root of a tree
 
@@ -36,51 +31,40 @@ pub record SolvedBy {C : Type 0} (p : Network) (start : List ℕ) (lower cost : 
 
 -- ---- files
 
--- a bound as a price
-abbrev pub priced : {C : Type 0} → (C → Price) → Option C → Option Price
-priced price None = None
-priced price (Some c) = Some (price c)
-
--- the least stops and the least minutes of a table file's node
-abbrev pub table_bound : List ℕ → List ℕ → ℕ × ℕ
-table_bound bs = costs.bound (stops bs) (minutes bs) (variable_count bs)
-
--- the stops and the minutes of an assignment of a table file
-abbrev pub table_cost : List ℕ → List ℕ → ℕ × ℕ
-table_cost bs = costs.cost (stops bs) (minutes bs) (variable_count bs)
+-- s is the survey of the lawful file bs, which says what r reads in it
+pub record SurveyBy {C : Type 0} (r : Reading C) (bs : List ℕ) (s : Survey) : Type 0 where
+  pub lawful : Lawful r.code bs
+  pub sorted : s.sort ≡ r.sort
+  pub wide : s.variables ≡ (r.network bs).width
+  pub long : s.constraints ≡ (r.network bs).count
+  pub least : Option C
+  pub seen : Seen (r.network bs) (r.start bs) (r.bound bs) s.root.words s.status least
+  pub shown : s.bound ≡ option_map r.price least
 
 -- s is the survey of the lawful table file bs
-pub record TableSurvey (bs : List ℕ) (s : Survey) : Type 0 where
-  pub lawful : LawfulTable bs
-  pub sorted : s.sort ≡ Table
-  pub wide : s.variables ≡ variable_count bs
-  pub long : s.constraints ≡ table_count bs
-  pub least : Option (ℕ × ℕ)
-  pub seen : Seen (tables.network_of bs) (tables.start_of bs) (table_bound bs) s.root.words s.status least
-  pub shown : s.bound ≡ priced Pair least
+abbrev pub TableSurvey : List ℕ → Survey → Type 0
+TableSurvey = SurveyBy table_reading
 
 -- s is the survey of the lawful sum file bs
-pub record SumSurvey (bs : List ℕ) (s : Survey) : Type 0 where
-  pub lawful : LawfulSum bs
-  pub sorted : s.sort ≡ Sum
-  pub wide : s.variables ≡ sum_width bs
-  pub long : s.constraints ≡ sum_count bs
-  pub least : Option ℤ
-  pub seen : Seen (sums.network_of bs) (sums.start_of bs) (sums.bound_of bs) s.root.words s.status least
-  pub shown : s.bound ≡ priced Total least
+abbrev pub SumSurvey : List ℕ → Survey → Type 0
+SumSurvey = SurveyBy sum_reading
 
 -- what is said of a file: its survey, or the first check that it fails, each as the first byte says
 pub record Surveyed (bs : List ℕ) (r : Result Survey Refusal) : Type 0 where
   pub table : sum_file bs ≡ false → MatchResult r (TableSurvey bs) (Faulty table_code bs)
   pub sum : sum_file bs ≡ true → MatchResult r (SumSurvey bs) (Faulty sum_code bs)
 
+-- the tree of a file, which says what r reads in it, under the order of its costs
+abbrev pub TreeBy : {C : Type 0} → Reading C → (C → C → Bool) → List ℕ → Type 0
+TreeBy r less bs = SolvedBy (r.network bs) (r.start bs) (r.bound bs) (r.cost bs) less
+
 -- the tree of a lawful table file
 abbrev pub TableTree : List ℕ → Type 0
-TableTree bs = SolvedBy (tables.network_of bs) (tables.start_of bs) (table_bound bs) (table_cost bs) costs.less
+TableTree = TreeBy table_reading costs.less
 
 -- the tree of a lawful sum file
 abbrev pub SumTree : List ℕ → Type 0
-SumTree bs = SolvedBy (sums.network_of bs) (sums.start_of bs) (sums.bound_of bs) (sums.cost_of bs) int_lt
+SumTree = TreeBy sum_reading int_lt
 
 -- the leaves of the tree of each lawful file are its solutions
 pub record LeavesOf (bs : List ℕ) : Type 0 where

@@ -6,69 +6,61 @@ ghost use Rattle.records.specs.Checks.{count, variable_code, pair_code, table_li
 ghost use Rattle.records.specs.Tables.{variable_count};
 ghost use Rattle.records.specs.Refusals.{number, Faulty};
 
-use records::{Cause, Refusal, line_at, read_u32, whole_count};
+use records::{Cause, Kind, Line, Refusal, lines_of, read_u32, whole_count};
 
 /// The checks of a variable at place `k`, after `variables` others.
-fn check_variable(line: &[u8], k: usize, variables: usize) -> Result<(), Cause>
-    requires { length line.now ≡ 136 }
+fn check_variable(line: &Line, k: usize, variables: usize) -> Result<(), Cause>
     ensures { MatchResult result (λ _. variable_code line.now k variables ≡ 0) (λ e. variable_code line.now k variables ≡ number e) }
 {
-    let [_kind, name, b, c, rest @ ..] = line else {
-        return unreachable();
-    };
+    let [_kind, name, b, c, ..] = line;
     if variables != k || k >= 32 {
         return Err(Cause::Kind);
     }
     if *b != 0 || *c != 0 {
         return Err(Cause::Zero);
     }
-    if *name as usize != k {
+    if usize::from(*name) != k {
         return Err(Cause::Number);
     }
-    if read_u32(rest, 0) == 0 {
+    if read_u32(line, 4) == 0 {
         return Err(Cause::Start);
     }
     Ok(())
 }
 
 /// The checks of a table at place `k`, after `variables` variables.
-fn check_pair(line: &[u8], k: usize, variables: usize) -> Result<(), Cause>
-    requires { length line.now ≡ 136 }
+fn check_pair(line: &Line, k: usize, variables: usize) -> Result<(), Cause>
     ensures { MatchResult result (λ _. pair_code line.now k variables ≡ 0) (λ e. pair_code line.now k variables ≡ number e) }
 {
-    let [_kind, x, y, c, rest @ ..] = line else {
-        return unreachable();
-    };
+    let [_kind, x, y, c, ..] = line;
     if k == 0 {
         return Err(Cause::Kind);
     }
-    if *c != 0 || read_u32(rest, 0) != 0 {
+    if *c != 0 || read_u32(line, 4) != 0 {
         return Err(Cause::Zero);
     }
-    if *x as usize >= variables || *y as usize >= variables || *x == *y {
+    if usize::from(*x) >= variables || usize::from(*y) >= variables || *x == *y {
         return Err(Cause::Number);
     }
     Ok(())
 }
 
 /// The checks of one record at place `k`, after `variables` variables; the answer counts the variables with it.
-fn check_line(line: &[u8], k: usize, variables: usize) -> Result<usize, Cause>
-    requires { (length line.now ≡ 136) × (variables ≤ 32) }
+fn check_line(line: &Line, k: usize, variables: usize) -> Result<usize, Cause>
+    requires { variables ≤ 32 }
     ensures { MatchResult result (λ v. (table_line_code line.now k variables ≡ 0) × (v ≡ variables + (if nat_eq (slice_index line.now 0) 1 then 1 else 0)) × (v ≤ 32)) (λ e. table_line_code line.now k variables ≡ number e) }
 {
-    let [kind, ..] = line else {
-        return unreachable();
-    };
-    match *kind {
-        1 => {
+    let [kind, ..] = line;
+    match Kind::try_from(*kind)? {
+        Kind::Variable => {
             check_variable(line, k, variables)?;
             Ok(variables + 1)
         }
-        2 => {
+        Kind::Table => {
             check_pair(line, k, variables)?;
             Ok(variables)
         }
-        _ => Err(Cause::Kind),
+        Kind::Objective | Kind::Sum => Err(Cause::Kind),
     }
 }
 
@@ -76,13 +68,10 @@ fn check_line(line: &[u8], k: usize, variables: usize) -> Result<usize, Cause>
 pub fn check(bytes: &[u8]) -> Result<usize, Refusal>
     ensures { MatchResult result (λ v. LawfulTable bytes.now × (v ≡ variable_count bytes.now) × (0 < v) × (v ≤ 32) × (v ≤ count bytes.now)) (λ e. Faulty table_code bytes.now e) }
 {
-    let count = whole_count(bytes)?;
+    whole_count(bytes)?;
     let mut variables = 0;
-    for k in 0..count {
-        match check_line(line_at(bytes, k), k, variables) {
-            Ok(more) => variables = more,
-            Err(cause) => return Err(Refusal { cause, record: k }),
-        }
+    for (k, line) in lines_of(bytes).iter().enumerate() {
+        variables = check_line(line, k, variables).map_err(|cause| Refusal { cause, record: k })?;
     }
     Ok(variables)
 }

@@ -1,4 +1,5 @@
 pub mod Progress
+pub mod Readings
 pub mod Tabled
 pub mod Prices
 pub mod Starts

@@ -1,11 +1,15 @@
-use Rattle.std.proofs.Common.{◌≡◌, ℕ, zero, suc, ◌+◌, ◌*◌, ◌^◌, ◌<◌, ◌≤◌, min, Bool, true, false, cond, ◌&&◌, ◌||◌, eqb, ltb, ◌⊎◌, List, get_or, sym, refl, ap, ◌∙◌, subst, inl, inr, add-one, arith}
+use Rattle.std.proofs.Common.{◌≡◌, ℕ, zero, suc, ◌+◌, ◌*◌, ◌^◌, ◌<◌, ◌≤◌, min, Bool, true, false, cond, ◌&&◌, ◌||◌, eqb, ltb, ◌⊎◌, List, [], ◌∷◌, ◌++◌, length, get_or, sym, refl, ap, ◌∙◌, subst, inl, inr, add-one, arith}
 use lib.Count.{count_trailing_zeros}
-use Rattle.std.proofs.lemmas.Bool.{cases_eq, cases_lt, cases_Bool, both_ways, or_from, and_right, le-ltb}
+use Rattle.std.proofs.lemmas.Bool.{cases_eq, cases_lt, both_ways, or_from, and_right, le-ltb}
 use Rattle.std.proofs.lemmas.Bool.Decides.{nat_tests}
 use Rattle.trees.specs.Trees.{StrictOrder}
-use Rattle.words.specs.Words.{bit, has, Inside, Proper, Without}
+use Rattle.words.specs.Words.{bit, has, Inside, Proper}
+use Rattle.words.specs.Values.{values_of}
 use Rattle.nodes.specs.Choosing.{Filled}
-use Rattle.words.proofs.Bit.{trailing_bit, bit_zero, bit_pow_same, bit_pow_other}
+use Rattle.words.proofs.Bit.{trailing_bit, bit_zero, bit_pow_same, bit_pow_other, some_bit}
+use Rattle.words.proofs.Rising.{coming, passed, all_seen}
+use Rattle.std.specs.List.{Contains}
+use Rattle.std.proofs.lemmas.List.Elements.{Contains-push_cases}
 use Rattle.words.proofs.Inside.{in_word}
 use Rattle.propagation.specs.Networks.{Assigns}
 use Rattle.problems.specs.Problems.{Priced}
@@ -125,41 +129,39 @@ priced stops minutes w = record {
 
 -- ---- the loop over the values of a word
 
--- b is a value of f in w, and no greater than f at a value of w that is not in `left`
-pub record Seen (f : ℕ → ℕ) (w left b : ℕ) : Type 0 where
-  pub inside : (v : ℕ) → bit left v ≡ true → bit w v ≡ true
-  pub attained : (v : ℕ) × (bit w v ≡ true) × (f v ≡ b)
-  pub lowest : (v : ℕ) → bit w v ≡ true → bit left v ≡ false → b ≤ f v
+-- b is the least of f at the values of w that have been seen, and the largest cost where none has
+pub record Seen (f : ℕ → ℕ) (w : ℕ) (seen left : List ℕ) (b : ℕ) : Type 0 where
+  pub whole : values_of w ≡ seen ++ left
+  pub attained : ((seen ≡ []) × (b ≡ 65535)) ⊎ ((v : ℕ) × (bit w v ≡ true) × (f v ≡ b))
+  pub lowest : (v : ℕ) → Contains seen v → b ≤ f v
 
--- what is not left is the value taken, or was not left before
-not_left : (left v rest u : ℕ) → Without left v rest → bit rest u ≡ false → (u ≡ v) ⊎ (bit left u ≡ false)
-not_left left v rest u take n = elim (cases_eq u v) [
-  | inl e ↦ inl e
-  | inr ne ↦ elim (cases_Bool (bit left u)) [ inl t ↦ absurd (both_ways (bit rest u) n (take.stays u t ne)) | inr f ↦ inr f ]
-]
+pub seen_none : (f : ℕ → ℕ) (w : ℕ) (left : List ℕ) → left ≡ values_of w → Seen f w [] left 65535
+seen_none f w left e = record { whole = sym e; attained = inl (refl, refl); lowest = λ v h. absurd (omega (arith, h.1)) }
 
-pub seen_one : (f : ℕ → ℕ) (w v b rest : ℕ) → bit w v ≡ true → b ≡ f v → Without w v rest → Seen f w rest b
-seen_one f w v b rest there e take = record {
-  inside = λ u t. (take.only u t).0;
-  attained = (v, there, sym e);
-  lowest = λ u t n. elim (not_left w v rest u take n) [ inl q ↦ omega (arith, ap f q) | inr g ↦ absurd (both_ways (bit w u) g t) ];
+pub seen_more : (f : ℕ → ℕ) (w : ℕ) (seen left : List ℕ) (b v c : ℕ) (rest : List ℕ) → Seen f w seen left b → left ≡ v ∷ rest → c ≡ f v → c < 65536 → Seen f w (seen ++ v ∷ []) rest (min b c)
+seen_more f w seen left b v c rest s first e l = record {
+  whole = passed w v seen left rest s.whole first;
+  attained = inr (elim s.attained [
+    | inl p ↦ (v, here, omega (arith, p.1))
+    | inr p ↦ elim (cases_lt b c) [ inl l ↦ (p.0, p.1, omega (arith, p.2)) | inr g ↦ (v, here, omega arith) ]
+  ]);
+  lowest = λ u h. elim (Contains-push_cases seen v u h) [ inl g ↦ omega (arith, s.lowest u g) | inr q ↦ omega (arith, ap f q) ];
 }
+  where
+    here : bit w v ≡ true
+    here = (coming w v seen left rest s.whole first).1
 
-pub seen_more : (f : ℕ → ℕ) (w left b v c rest : ℕ) → Seen f w left b → bit left v ≡ true → c ≡ f v → Without left v rest → Seen f w rest (min b c)
-seen_more f w left b v c rest s there e take = record {
-  inside = λ u t. s.inside u (take.only u t).0;
-  attained = elim (cases_lt b c) [
-    | inl l ↦ (s.attained.0, s.attained.1, omega (arith, s.attained.2))
-    | inr g ↦ (v, s.inside v there, omega arith)
-  ];
-  lowest = λ u t n. elim (not_left left v rest u take n) [
-    | inl q ↦ omega (arith, ap f q)
-    | inr g ↦ omega (arith, s.lowest u t g)
-  ];
+pub seen_all : (f : ℕ → ℕ) (w : ℕ) (seen left : List ℕ) (b : ℕ) → w < 2 ^ 32 → (w ≡ 0 → ⊥) → Seen f w seen left b → left ≡ [] → Least f w b
+seen_all f w seen left b l ne s e = record {
+  attained = elim s.attained [ inl p ↦ absurd (omega (arith, (all v.0 v.1).1, ap length p.0)) | inr p ↦ p ];
+  lowest = λ u h. s.lowest u (all u h);
 }
+  where
+    all : (u : ℕ) → bit w u ≡ true → Contains seen u
+    all u h = all_seen w u seen left l s.whole e h
 
-pub seen_all : (f : ℕ → ℕ) (w left b : ℕ) → Seen f w left b → left ≡ 0 → Least f w b
-seen_all f w left b s e = record { attained = s.attained; lowest = λ v h. s.lowest v h (ap (λ (x : ℕ). bit x v) e ∙ bit_zero v) }
+    v : (u : ℕ) × (bit w u ≡ true)
+    v = some_bit w ne
 
 -- ---- the loop over the variables
 

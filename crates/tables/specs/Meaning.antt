@@ -1,5 +1,5 @@
 use Rattle.std.specs.Prelude.{ℕ, List}
-use Rattle.table_files.specs.Meaning.{bytes_of}
+use Rattle.files.specs.Meaning.{bytes_of}
 use Rattle.tables.specs.declared.problem.Tables.{Tables}
 
 -- the bytes of the table file that a problem stands on

@@ -4,6 +4,5 @@
 mod costs;
 mod partners;
 mod problem;
-mod readings;
 
 pub use problem::Tables;

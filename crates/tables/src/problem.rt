@@ -1,5 +1,5 @@
 //! A table file as a problem.
-use table_files::TableView;
+use files::TableView;
 
 pub mod calls;
 

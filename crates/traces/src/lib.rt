@@ -1,23 +1,29 @@
 //! Traces: the path from the root to the current node, and how deep the held nodes and the checkpoints are.
 #![tactic(auto)]
 
-ghost use Rattle.std.specs.Prelude.{◌≡◌, ◌<◌, ◌≤◌, length};
+use arrayvec::ArrayVec;
+use std::marker::Model;
 
 pub mod looks;
 pub mod moves;
 
 /// A path of at most 992 alternatives, at most 32 depths of held nodes, and at most 32 depths of checkpoints.
+/// Contracts see it as its line, where the newest depth stands first.
 #[derive(Drop)]
 pub struct Trace {
-    path: [u8; 992],
-    len: u16,
-    depths: [u16; 32],
-    held: u8,
-    checks: [u16; 32],
-    checkpoints: u8,
+    path: ArrayVec<u8, 992>,
+    depths: ArrayVec<u16, 32>,
+    checks: ArrayVec<u16, 32>,
     gap: u8,
-    ghost path_ok: { (length path ≡ 992) × (len ≤ 992) },
-    ghost depths_ok: { (length depths ≡ 32) × (held ≤ 32) },
-    ghost checks_ok: { (length checks ≡ 32) × (checkpoints ≤ 32) },
-    ghost gap_ok: { (0 < gap) × (gap ≤ 32) },
+}
+
+impl Model for Trace {
+    ghost use Rattle.std.specs.Prelude.{◌<◌, ◌≤◌, reverse};
+    ghost use Rattle.traces.specs.Lines.{Line};
+
+    ghost Value = { Line };
+
+    ghost view = { λ t. record { path = t.path.items; depths = reverse t.depths.items; checks = reverse t.checks.items; gap = t.gap } };
+
+    ghost invariant = { λ t. (0 < t.gap) × (t.gap ≤ 32) };
 }

@@ -1,60 +1,42 @@
 ghost use Rattle.std.specs.Prelude.{◌≡◌, ◌≤◌, length, slice_index};
 ghost use Rattle.traces.specs.Lines.{top, stale};
-ghost use Rattle.traces.specs.Traces.{line};
 
 use super::Trace;
 
 impl Trace {
     /// How many nodes are held.
     pub fn held(&self) -> u8
-        ensures { (result ≡ length (line self.now).depths) × (result ≤ 32) }
+        ensures { (result ≡ length self.now.depths) × (result ≤ 32) }
     {
-        self.held
+        self.depths.len() as u8
     }
 
     /// The depth of the newest held node; 0 when none is held.
     pub fn newest(&self) -> u16
-        ensures { result ≡ top (line self.now).depths }
+        ensures { result ≡ top self.now.depths }
     {
-        if self.held == 0 {
-            0
-        } else {
-            self.depths[self.held as usize - 1]
-        }
+        self.depths.last().copied().unwrap_or(0)
     }
 
     /// The depth of the deepest checkpoint; 0 when there is none.
     pub fn deepest(&self) -> u16
-        ensures { result ≡ top (line self.now).checks }
+        ensures { result ≡ top self.now.checks }
     {
-        if self.checkpoints == 0 {
-            0
-        } else {
-            self.checks[self.checkpoints as usize - 1]
-        }
+        self.checks.last().copied().unwrap_or(0)
     }
 
     /// Whether the deepest checkpoint is deeper than the newest held node, or no node is held.
     pub fn stale(&self) -> bool
-        ensures { result ≡ stale (line self.now) }
+        ensures { result ≡ stale self.now }
     {
-        if self.checkpoints == 0 {
-            return false;
-        }
-        if self.held == 0 {
-            return true;
-        }
-        self.newest() < self.deepest()
+        // with nothing held, `None` is less than any depth
+        self.depths.last().copied() < self.checks.last().copied()
     }
 
     /// Step `k` of the path, and 0 past its end.
     pub fn alternative(&self, k: u16) -> u8
-        ensures { result ≡ slice_index (line self.now).path k }
+        ensures { result ≡ slice_index self.now.path k }
     {
-        if k < self.len {
-            self.path[k as usize]
-        } else {
-            0
-        }
+        self.path.get(usize::from(k)).copied().unwrap_or(0)
     }
 }

@@ -1,1 +1,2 @@
-mod Changes
+mod Mixed
+mod Moves

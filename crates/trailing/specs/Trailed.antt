@@ -21,11 +21,6 @@ pub record Agrees {N C : Type 0} (named : List ℕ → N) (m : Meaning N C) (seg
   pub capacity : most ≤ 32
   pub room : length segments ≤ most
 
--- what has changed since the copy was made is noted: the words at each mark stay, and the copy has the current words
-pub record Follows {N C : Type 0} (m : Meaning N C) (segments longer : List (List Entry)) (copy new : List ℕ) : Type 0 where
-  pub marks : before longer (words_now m) ≡ before segments (take m.width copy)
-  pub seen : take m.width new ≡ words_now m
-
 -- entries are put back: only the current node changes, and the words at each mark stay
 pub record PutBack {N C : Type 0} (m n : Meaning N C) (segments left : List (List Entry)) (copy : List ℕ) : Type 0 where
   pub place : n ≡ placed m n.current m.held

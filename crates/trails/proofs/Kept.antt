@@ -1,46 +1,20 @@
-use Rattle.std.proofs.Common.{◌≡◌, ℕ, zero, suc, ◌+◌, ◌-◌, ◌*◌, ◌^◌, ◌<◌, ◌≤◌, Bool, true, false, cond, ◌&&◌, eqb, ltb, leb, ◌≢◌, List, [], ◌∷◌, length, get_or, set, Some, None, sym, refl, ap, ◌∙◌, add-one, arith, get_or-set_other, get_or-set_same}
+use Rattle.std.proofs.Common.{◌≡◌, ℕ, zero, suc, ◌+◌, ◌-◌, ◌*◌, ◌^◌, ◌<◌, ◌≤◌, Bool, true, false, cond, ◌&&◌, eqb, ltb, leb, ◌≢◌, List, [], ◌∷◌, ◌++◌, length, get_or, set, reverse, Some, None, sym, subst, refl, ap, ◌∙◌, add-one, arith, get_or-set_other, get_or-set_same}
 use lib.Bits.{bit_or, bit_xor, or_lt}
 use lib.Pow.{pow-lt}
 use lib.Count.{ones-le}
-use Rattle.std.proofs.lemmas.Bool.{and_parts, and_from, eqb-true, eq-eqb, leb-true, le-leb, lt-ltb}
+use Rattle.std.proofs.lemmas.Bool.{and_parts, and_from, eqb-true, eq-eqb, leb-true, le-leb, lt-ltb, le-ltb}
+use Rattle.std.proofs.lemmas.List.{reverse-append, length-reverse}
 use Rattle.words.specs.Words.{bit, Only}
 use Rattle.words.proofs.Inside.{in_word}
 use Rattle.trails.specs.declared.entry.Entry.{Entry}
 use Rattle.trails.specs.declared.entry.Mark.{Mark}
-use Rattle.trails.specs.Entries.{recorded, added, noted, marked, newest_entry, popped, none, back, newest, parts, top, exact, kept}
+use Rattle.trails.specs.Entries.{recorded, added, noted, marked, newest_entry, popped, none, back, parts, top, exact, kept}
 use Rattle.trails.proofs.Exact.{room, exact_recorded, exact_more}
 
-abbrev pub unset : Mark
-unset = record { start = 0; size = 0; words = 0 }
+-- ---- the marks, the newest first
 
--- ---- the marks of an array
-
-newest_set : (ms : List Mark) (n i : ℕ) (m : Mark) → n ≤ i → newest (set ms i m) n ≡ newest ms n
-newest_set ms zero i m h = refl
-newest_set ms (suc n) i m h =
-    let ne : n ≢ i = omega arith in
-    let e = newest_set ms n i m (omega arith) in
-    let f : get_or (set ms i m) n unset ≡ get_or ms n unset = rw get_or-set_other in
-    cc
-
-pub newest_more : (ms : List Mark) (n : ℕ) (m : Mark) → n < length ms → newest (set ms n m) (n + 1) ≡ m ∷ newest ms n
-newest_more ms n m h =
-    let e = newest_set ms n n m (omega arith) in
-    let f : get_or (set ms n m) n unset ≡ m = rw get_or-set_same in
-    rw add-one (cc)
-
-pub newest_top : (ms : List Mark) (n : ℕ) → 0 < n → newest ms n ≡ get_or ms (n - 1) unset ∷ newest ms (n - 1)
-newest_top ms zero h = absurd (omega arith)
-newest_top ms (suc n) h = let e : suc n - 1 ≡ n = omega arith in rw e refl
-
-pub newest_put : (ms : List Mark) (n : ℕ) (m : Mark) → 0 < n → n ≤ length ms → newest (set ms (n - 1) m) n ≡ m ∷ newest ms (n - 1)
-newest_put ms n m h k =
-    let e : n - 1 + 1 ≡ n = omega arith in
-    ap (newest (set ms (n - 1) m)) (sym e) ∙ newest_more ms (n - 1) m (omega arith)
-
-pub length_newest : (ms : List Mark) (n : ℕ) → length (newest ms n) ≡ n
-length_newest ms zero = refl
-length_newest ms (suc n) = ap suc (length_newest ms n)
+pub newest_more : (ms : List Mark) (m : Mark) → reverse (ms ++ (m ∷ [])) ≡ m ∷ reverse ms
+newest_more ms m = reverse-append ms (m ∷ [])
 
 pub length_parts : (es : List Entry) (ms : List Mark) → length (parts es ms) ≡ length ms
 length_parts es [] = refl
@@ -191,83 +165,76 @@ takes es m ms h pos low =
 no_entry : (es : List Entry) (m : Mark) (ms : List Mark) → m.size ≡ 0 → (None ≡ newest_entry (parts es (m ∷ ms))) × (parts es (m ∷ ms) ≡ popped (parts es (m ∷ ms)))
 no_entry es m ms h = rw h (refl, refl)
 
--- ---- the newest mark of an array of marks
+-- ---- the newest mark m of the marks, over the others o
 
-kept_top : (es : List Entry) (ms : List Mark) (n : ℕ) → 0 < n → kept es (newest ms n) ≡ true → kept es (get_or ms (n - 1) unset ∷ newest ms (n - 1)) ≡ true
-kept_top es ms n h k = ap (kept es) (sym (newest_top ms n h)) ∙ k
+kept_top : (es : List Entry) (ms : List Mark) (m : Mark) (o : List Mark) → reverse ms ≡ m ∷ o → kept es (reverse ms) ≡ true → kept es (m ∷ o) ≡ true
+kept_top es ms m o was k = ap (kept es) (sym was) ∙ k
 
-pub fine_top : (es : List Entry) (ms : List Mark) (n : ℕ) → 0 < n → kept es (newest ms n) ≡ true → Fine es (get_or ms (n - 1) unset) (newest ms (n - 1))
-fine_top es ms n h k = fine es (get_or ms (n - 1) unset) (newest ms (n - 1)) (kept_top es ms n h k)
+pub fine_top : (es : List Entry) (ms : List Mark) (m : Mark) (o : List Mark) → reverse ms ≡ m ∷ o → kept es (reverse ms) ≡ true → Fine es m o
+fine_top es ms m o was k = fine es m o (kept_top es ms m o was k)
 
-pub ends : (es : List Entry) (ms : List Mark) (n : ℕ) → 0 < n → n ≤ 32 → kept es (newest ms n) ≡ true
-    → (get_or ms (n - 1) unset).start + (get_or ms (n - 1) unset).size ≤ 1024
-ends es ms n h l k = omega (arith, top_low es (get_or ms (n - 1) unset ∷ newest ms (n - 1)) (kept_top es ms n h k), length_newest ms (n - 1))
+pub fewer_others : (ms : List Mark) (m : Mark) (o : List Mark) → reverse ms ≡ m ∷ o → length o < length ms
+fewer_others ms m o was = omega (arith, length-reverse ms, ap length was)
 
-pub adds_top : (es : List Entry) (ms : List Mark) (n : ℕ) (e : Entry) (o : ℕ) → 0 < n → n ≤ 32 → length es ≡ 1024 → kept es (newest ms n) ≡ true
-    → e.word < 32 → (get_or ms (n - 1) unset).words < 2 ^ 32 → bit (get_or ms (n - 1) unset).words e.word ≡ false → Only e.word o
-    → Added es (get_or ms (n - 1) unset) (newest ms (n - 1)) e o
-adds_top es ms n e o pos most l k lt low f one =
-    adds es (get_or ms (n - 1) unset) (newest ms (n - 1)) e o (kept_top es ms n pos k) l (omega (arith, length_newest ms (n - 1))) lt low f one
+pub ends : (es : List Entry) (ms : List Mark) (m : Mark) (o : List Mark) → reverse ms ≡ m ∷ o → length ms ≤ 32 → kept es (reverse ms) ≡ true → m.start + m.size ≤ 1024
+ends es ms m o was few k = omega (arith, top_low es (m ∷ o) (kept_top es ms m o was k), fewer_others ms m o was)
 
-pub record Noted (es es' : List Entry) (ms ms' : List Mark) (n : ℕ) (e : Entry) : Type 0 where
-  pub value : parts es' (newest ms' n) ≡ noted (parts es (newest ms n)) e
-  pub ok : kept es' (newest ms' n) ≡ true
-  pub end : top (newest ms' n) ≤ top (newest ms n) + 1
-  pub rest : (i : ℕ) → top (newest ms n) < i → get_or es' i none ≡ get_or es i none
+pub adds_top : (es : List Entry) (ms : List Mark) (m : Mark) (o : List Mark) (e : Entry) (b : ℕ) → reverse ms ≡ m ∷ o → length ms ≤ 32 → length es ≡ 1024 → kept es (reverse ms) ≡ true
+    → e.word < 32 → m.words < 2 ^ 32 → bit m.words e.word ≡ false → Only e.word b → Added es m o e b
+adds_top es ms m o e b was few l k lt low f one = adds es m o e b (kept_top es ms m o was k) l (omega (arith, fewer_others ms m o was)) lt low f one
 
-pub notes : (es : List Entry) (ms : List Mark) (n : ℕ) (e x : Entry) (o : ℕ) → 0 < n → n ≤ length ms
-    → Added es (get_or ms (n - 1) unset) (newest ms (n - 1)) e o → x ≡ e
-    → Noted es (set es ((get_or ms (n - 1) unset).start + (get_or ms (n - 1) unset).size) x) ms
-    (set ms (n - 1) (record { start = (get_or ms (n - 1) unset).start; size = (get_or ms (n - 1) unset).size + 1; words = bit_or (get_or ms (n - 1) unset).words o })) n e
-notes es ms n e x o pos most a is =
-    let m = get_or ms (n - 1) unset in
-    let m' : Mark = record { start = m.start; size = m.size + 1; words = bit_or m.words o } in
-    let was = newest_top ms n pos in
-    let now = newest_put ms n m' pos most in
+pub record Noted (es es' : List Entry) (ms ms' : List Mark) (e : Entry) : Type 0 where
+  pub value : parts es' (reverse ms') ≡ noted (parts es (reverse ms)) e
+  pub ok : kept es' (reverse ms') ≡ true
+  pub end : top (reverse ms') ≤ top (reverse ms) + 1
+  pub rest : (i : ℕ) → top (reverse ms) < i → get_or es' i none ≡ get_or es i none
+
+pub notes : (es : List Entry) (ms ms' : List Mark) (m : Mark) (o : List Mark) (e x : Entry) (b i : ℕ) → reverse ms ≡ m ∷ o
+    → reverse ms' ≡ record { start = m.start; size = m.size + 1; words = bit_or m.words b } ∷ o
+    → Added es m o e b → x ≡ e → i ≡ m.start + m.size → Noted es (set es i x) ms ms' e
+notes es ms ms' m o e x b i was now a is at =
     let high = ap top was in
-    record {
+    subst (λ (j : ℕ). Noted es (set es j x) ms ms' e) (sym at) (record {
       value = rw (is, now, was) a.value;
       ok = rw (is, now) a.ok;
       end = omega (arith, ap top now, high);
-      rest = λ i h. get_or-set_other es (m.start + m.size) i x none (omega (arith, high));
-    }
+      rest = λ k h. get_or-set_other es (m.start + m.size) k x none (omega (arith, high));
+    })
 
-pub notes_none : (es : List Entry) (ms : List Mark) (n : ℕ) (e : Entry) → 0 < n → kept es (newest ms n) ≡ true
-    → bit (get_or ms (n - 1) unset).words e.word ≡ true → parts es (newest ms n) ≡ noted (parts es (newest ms n)) e
-notes_none es ms n e pos k h =
-    let m = get_or ms (n - 1) unset in
-    let g = fine_top es ms n pos k in
+pub notes_none : (es : List Entry) (ms : List Mark) (m : Mark) (o : List Mark) (e : Entry) → reverse ms ≡ m ∷ o → kept es (reverse ms) ≡ true
+    → bit m.words e.word ≡ true → parts es (reverse ms) ≡ noted (parts es (reverse ms)) e
+notes_none es ms m o e was k h =
+    let g = fine_top es ms m o was k in
     let s = back es m.start m.size in
-    let was = newest_top ms n pos in
-    rw was (not_added s (parts es (newest ms (n - 1))) e (exact_recorded m.words s e.word g.words ∙ h))
+    rw was (not_added s (parts es o) e (exact_recorded m.words s e.word g.words ∙ h))
 
-pub takes_top : (es : List Entry) (ms : List Mark) (n : ℕ) → 0 < n → kept es (newest ms n) ≡ true → 0 < (get_or ms (n - 1) unset).size
-    → (get_or ms (n - 1) unset).words < 2 ^ 32
-    → Taken es (get_or ms (n - 1) unset) (newest ms (n - 1)) (get_or es ((get_or ms (n - 1) unset).start + (get_or ms (n - 1) unset).size - 1) none)
-takes_top es ms n pos k some low = takes es (get_or ms (n - 1) unset) (newest ms (n - 1)) (kept_top es ms n pos k) some low
+pub takes_top : (es : List Entry) (ms : List Mark) (m : Mark) (o : List Mark) (i : ℕ) → reverse ms ≡ m ∷ o → kept es (reverse ms) ≡ true → 0 < m.size → m.words < 2 ^ 32
+    → i ≡ m.start + m.size - 1 → Taken es m o (get_or es i none)
+takes_top es ms m o i was k some low at = subst (λ (j : ℕ). Taken es m o (get_or es j none)) (sym at) (takes es m o (kept_top es ms m o was k) some low)
 
 -- ---- one mark more
 
-pub marks_more : (es : List Entry) (ms : List Mark) (n i : ℕ) → n < length ms → n < 32 → kept es (newest ms n) ≡ true → i ≡ top (newest ms n)
-    → (parts es (newest (set ms n (record { start = i; size = 0; words = 0 })) (n + 1)) ≡ marked (parts es (newest ms n)))
-    × (kept es (newest (set ms n (record { start = i; size = 0; words = 0 })) (n + 1)) ≡ true)
-marks_more es ms n i l most k e =
+pub marks_more : (es : List Entry) (ms : List Mark) (i : ℕ) → length ms < 32 → kept es (reverse ms) ≡ true → i ≡ top (reverse ms)
+    → (parts es (reverse (ms ++ (record { start = i; size = 0; words = 0 } ∷ []))) ≡ marked (parts es (reverse ms)))
+    × (kept es (reverse (ms ++ (record { start = i; size = 0; words = 0 } ∷ []))) ≡ true)
+marks_more es ms i most k e =
     let m : Mark = record { start = i; size = 0; words = 0 } in
-    let more = newest_more ms n m l in
-    let few = lt-ltb (length (parts es (newest ms n))) 32 (omega (arith, length_parts es (newest ms n), length_newest ms n)) in
-    (rw (more, few) refl, rw more (from_fine es m (newest ms n) (record { start = e; size = omega arith; words = refl; rest = k })))
+    let more = newest_more ms m in
+    let few = lt-ltb (length (parts es (reverse ms))) 32 (omega (arith, length_parts es (reverse ms), length-reverse ms)) in
+    (rw (more, few) refl, rw more (from_fine es m (reverse ms) (record { start = e; size = omega arith; words = refl; rest = k })))
 
-pub pops : (es : List Entry) (ms : List Mark) (n : ℕ) (e : Entry) (o : ℕ) → 0 < n → n ≤ length ms → Taken es (get_or ms (n - 1) unset) (newest ms (n - 1)) e → Only e.word o
-    → (Some e ≡ newest_entry (parts es (newest ms n)))
-    × (parts es (newest (set ms (n - 1) (record { start = (get_or ms (n - 1) unset).start; size = (get_or ms (n - 1) unset).size - 1; words = bit_xor (get_or ms (n - 1) unset).words o })) n) ≡ popped (parts es (newest ms n)))
-    × (kept es (newest (set ms (n - 1) (record { start = (get_or ms (n - 1) unset).start; size = (get_or ms (n - 1) unset).size - 1; words = bit_xor (get_or ms (n - 1) unset).words o })) n) ≡ true)
-pops es ms n e o pos most k one =
-    let m = get_or ms (n - 1) unset in
-    let m' : Mark = record { start = m.start; size = m.size - 1; words = bit_xor m.words o } in
-    let was = newest_top ms n pos in
-    let now = newest_put ms n m' pos most in
-    (rw was k.newest, rw (was, now) (k.rest o), rw now (k.ok o one))
+-- with 32 marks there is none more
+pub marks_full : (es : List Entry) (ms : List Mark) → 32 ≤ length ms → parts es (reverse ms) ≡ marked (parts es (reverse ms))
+marks_full es ms full =
+    let many = le-ltb (length (parts es (reverse ms))) 32 (omega (arith, length_parts es (reverse ms), length-reverse ms)) in
+    rw many refl
 
-pub pops_none : (es : List Entry) (ms : List Mark) (n : ℕ) → 0 < n → (get_or ms (n - 1) unset).size ≡ 0
-    → (None ≡ newest_entry (parts es (newest ms n))) × (parts es (newest ms n) ≡ popped (parts es (newest ms n)))
-pops_none es ms n pos h = let was = newest_top ms n pos in rw was (no_entry es (get_or ms (n - 1) unset) (newest ms (n - 1)) h)
+pub pops : (es : List Entry) (ms ms' : List Mark) (m : Mark) (o : List Mark) (e : Entry) (b : ℕ) → reverse ms ≡ m ∷ o
+    → reverse ms' ≡ record { start = m.start; size = m.size - 1; words = bit_xor m.words b } ∷ o
+    → Taken es m o e → Only e.word b
+    → (Some e ≡ newest_entry (parts es (reverse ms))) × (parts es (reverse ms') ≡ popped (parts es (reverse ms))) × (kept es (reverse ms') ≡ true)
+pops es ms ms' m o e b was now k one = (rw was k.newest, rw (was, now) (k.rest b), rw now (k.ok b one))
+
+pub pops_none : (es : List Entry) (ms : List Mark) (m : Mark) (o : List Mark) → reverse ms ≡ m ∷ o → m.size ≡ 0
+    → (None ≡ newest_entry (parts es (reverse ms))) × (parts es (reverse ms) ≡ popped (parts es (reverse ms)))
+pops_none es ms m o was h = rw was (no_entry es m o h)

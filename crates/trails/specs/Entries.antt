@@ -1,4 +1,4 @@
-use Rattle.std.specs.Prelude.{ℕ, zero, suc, ◌+◌, ◌^◌, ◌<◌, Bool, true, false, cond, ◌&&◌, List, [], ◌∷◌, length, Some, None, Option, ◌==◌, bit_xor, nat_le, nat_lt, slice_index_or, slice_set}
+use Rattle.std.specs.Prelude.{ℕ, zero, suc, ◌+◌, ◌-◌, ◌^◌, ◌<◌, Bool, true, false, cond, ◌&&◌, List, [], ◌∷◌, length, take, reverse, Some, None, Option, ◌==◌, bit_xor, nat_le, nat_lt, slice_index_or, slice_set}
 use Rattle.words.specs.Words.{bit}
 use Rattle.trails.specs.declared.entry.Entry.{Entry}
 use Rattle.trails.specs.declared.entry.Mark.{Mark}
@@ -68,15 +68,14 @@ abbrev pub back : List Entry → ℕ → ℕ → List Entry
 back es i zero = []
 back es i (suc n) = slice_index_or es (i + n) none ∷ back es i n
 
--- the first n marks, the last first
-abbrev pub newest : List Mark → ℕ → List Mark
-newest ms zero = []
-newest ms (suc n) = slice_index_or ms n (record { start = 0; size = 0; words = 0 }) ∷ newest ms n
-
 -- the entries since each mark
 abbrev pub parts : List Entry → List Mark → List (List Entry)
 parts es [] = []
 parts es (m ∷ ms) = back es m.start m.size ∷ parts es ms
+
+-- all marks but the newest, the last first
+abbrev pub older : List Mark → List Mark
+older ms = reverse (take (length ms - 1) ms)
 
 -- where the entries end
 abbrev pub top : List Mark → ℕ

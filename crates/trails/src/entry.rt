@@ -6,7 +6,7 @@ pub struct Entry {
 }
 
 /// Where the entries since a mark begin, how many they are, and which words are among them.
-#[derive(Clone, Copy)]
+#[derive(Clone, Copy, Default)]
 pub struct Mark {
     pub start: u16,
     pub size: u8,

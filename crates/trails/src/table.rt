@@ -1,7 +1,8 @@
-ghost use Rattle.std.specs.Prelude.{◌≡◌, ◌≤◌, true, length};
-ghost use Rattle.trails.specs.Entries.{newest, kept};
+ghost use Rattle.std.specs.Prelude.{◌≡◌, ◌≤◌, true, length, reverse};
+ghost use Rattle.trails.specs.Entries.{kept};
 
 use crate::entry::{Entry, Mark};
+use arrayvec::ArrayVec;
 
 pub mod calls;
 
@@ -9,10 +10,10 @@ pub mod calls;
 /// of 32 words each find room.
 #[derive(Drop)]
 pub struct Trail {
+    // a plain table: one entry is lent and written again, and no blank is written where entries are taken off
     entries: [Entry; 1024],
-    marks: [Mark; 32],
-    count: u8,
-    ghost long: { (length entries ≡ 1024) × (length marks ≡ 32) },
-    ghost few: { count ≤ 32 },
-    ghost ok: { kept entries (newest marks count) ≡ true },
+    marks: ArrayVec<Mark, 32>,
+    ghost long: { length entries ≡ 1024 },
+    ghost few: { length marks.items ≤ 32 },
+    ghost ok: { kept entries (reverse marks.items) ≡ true },
 }

@@ -1,6 +1,8 @@
 //! Search trees over nodes of any make: what a search can see of a node.
 #![tactic(auto)]
 
+mod text;
+
 /// Where a search stands at a node.
 #[derive(Clone, Copy)]
 pub enum Status {

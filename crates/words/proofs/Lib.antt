@@ -1,2 +1,4 @@
 pub mod Bit
 pub mod Inside
+pub mod Made
+pub mod Rising

@@ -2,7 +2,9 @@
 #![tactic(auto)]
 
 ghost use Rattle.std.specs.Prelude.{◌≡◌, ℕ, ◌<◌, ◌≤◌, true, false, ◌≢◌};
+ghost use Rattle.std.specs.Iterator.{YieldsFirst, item_count};
 ghost use Rattle.words.specs.Words.{bit, Without, Only, Lowest, Highest, Change};
+ghost use Rattle.words.specs.Values.{values_of, left};
 
 /// The smallest value of a word; 32 for the empty word.
 pub fn lowest(word: u32) -> u32
@@ -41,4 +43,34 @@ pub fn change(i: u32, before: u32, after: u32) -> u32
     ensures none { 32 ≤ i → result ≡ 0 }
 {
     if after == before { 0 } else { only(i) }
+}
+
+/// The values of a word, smallest first.
+#[derive(Drop)]
+pub struct Values(u32);
+
+impl Values {
+    /// All values of a word.
+    pub fn of(word: u32) -> Values
+        ensures { left result ≡ values_of word }
+    {
+        Values(word)
+    }
+}
+
+impl Iterator for Values {
+    type Item = u32;
+
+    ghost next_gives = { YieldsFirst left };
+
+    ghost remaining = { item_count left };
+
+    fn next(&mut self) -> Option<u32> {
+        if self.0 == 0 {
+            return None;
+        }
+        let value = lowest(self.0);
+        self.0 = without(self.0, value);
+        Some(value)
+    }
 }

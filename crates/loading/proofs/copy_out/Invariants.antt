@@ -4,5 +4,4 @@ use Rattle.loading.proofs.copy_out.Given as goal
 
 abbrev pub invariant-loop-i : goal.invariant-loop-i
 invariant-loop-i g l =
-    (length l.words ≡ 32)
-    × (g.S.Space.sound l.space → take l.i l.words ≡ take l.i (words_now (g.S.Space.meaning l.space)))
+    (length l.words ≡ 32) × (take l.i l.words ≡ take l.i (words_now (g.S.Space.meaning l.space)))

@@ -1,32 +1,32 @@
 //! A sum file as constraints with costs.
+ghost use Rattle.records.proofs.Facts.{width_some};
+ghost use Rattle.sum_networks.proofs.Keeping.{sums_sane};
+ghost use Rattle.std.proofs.Props.{props};
 ghost use Rattle.std.specs.Prelude.{◌≡◌, ℕ, ◌<◌, ◌≤◌, int_lt};
-ghost use Rattle.sum_files.specs.Meaning.{sum_bytes_of};
+ghost use Rattle.files.specs.Meaning.{bytes_of};
 ghost use Rattle.records.specs.Sums.{sum_width, objective_at};
 ghost use Rattle.sum_networks.specs.Sums.{SupportLaw, BoundLaw};
 ghost use Rattle.sum_networks.specs.Files.{sum_at, network_of, start_of, bound_of, cost_of};
 ghost use Rattle.sums.specs.Meaning.{file_of};
 
 use super::Sums;
-use crate::reading::touched_by;
-use crate::revising::{cheapest, clear, narrow};
-use nodes::choosing::has_empty;
-use nodes::node::Node;
+use crate::revising::clear;
+use crate::rows::{Row, cheapest, touched_by};
+use files::SumView;
+use nodes::Node;
 use problems::Problem;
 use propagation::Constraints;
-use sum_files::SumView;
+use std::array;
 
 impl<'a> Sums<'a> {
     /// The problem of a sum file. A value is supported just where the largest products of the other words reach the
     /// sum with it, and the bound of a node is the total of its least products.
     pub fn new(view: SumView<'a>) -> Sums<'a>
-        ensures shows { file_of result ≡ sum_bytes_of view.entry }
-        ensures support { (k : ℕ) → SupportLaw (sum_at (sum_bytes_of view.entry) k) (sum_width (sum_bytes_of view.entry)) }
-        ensures bounded { BoundLaw (objective_at (sum_bytes_of view.entry)) (sum_width (sum_bytes_of view.entry)) }
+        ensures shows { file_of result ≡ bytes_of view.entry }
+        ensures support { (k : ℕ) → SupportLaw (sum_at (bytes_of view.entry) k) (sum_width (bytes_of view.entry)) }
+        ensures bounded { BoundLaw (objective_at (bytes_of view.entry)) (sum_width (bytes_of view.entry)) }
     {
-        let mut touched = [0; 64];
-        for k in 0..view.sums() {
-            touched[k] = touched_by(&view, k);
-        }
+        let touched = array::from_fn(|k| touched_by(&view, k));
         Sums { view, touched }
     }
 }
@@ -47,19 +47,24 @@ impl<'a> Constraints for Sums<'a> {
     }
 
     fn revise(&self, k: usize, node: &mut Node) -> u32 {
+        let Some(row) = Row::of(&self.view, k) else {
+            return 0;
+        };
         let width = self.width();
-        if k >= self.count() {
-            0
-        } else if has_empty(node, width) {
+        if node.has_empty(width) {
             clear(node, width)
         } else {
-            narrow(&self.view, k, node)
+            row.narrow(node)
         }
     }
+
+    ghost sane = { λ s. sums_sane _ _ _ (width_some _ s.view.ok) };
 }
 
 impl<'a> Problem for Sums<'a> {
     type Cost = i64;
+
+    ghost costs = { Prim.hlevel props };
 
     ghost start = { λ s. start_of (file_of s) };
 
@@ -70,15 +75,13 @@ impl<'a> Problem for Sums<'a> {
     ghost less = { int_lt };
 
     fn start(&self) -> Node {
-        let mut words = [0; 32];
-        for i in 0..self.width() {
-            words[i] = 3;
-        }
+        let width = self.width();
+        let words = array::from_fn(|i| if i < width { 3 } else { 0 });
         Node { words }
     }
 
     fn bound(&self, node: &Node) -> Option<i64> {
-        if has_empty(node, self.width()) {
+        if node.has_empty(self.width()) {
             None
         } else {
             Some(cheapest(&self.view, node))

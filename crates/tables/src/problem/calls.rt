@@ -1,6 +1,8 @@
 //! Tables as constraints, and as a problem with costs.
+ghost use Rattle.table_networks.proofs.Files.{network_sane};
+ghost use Rattle.std.proofs.Props.{props};
 ghost use Rattle.std.specs.Prelude.{◌≡◌, ℕ, ◌+◌, ◌<◌, ◌≤◌, List, length};
-ghost use Rattle.table_files.specs.Meaning.{bytes_of};
+ghost use Rattle.files.specs.Meaning.{bytes_of};
 ghost use Rattle.records.specs.Tables.{variable_count, stops, minutes};
 ghost use Rattle.table_networks.specs.Costs.{LeastLaw, bound, cost, less};
 ghost use Rattle.table_networks.specs.Files.{network_of, start_of};
@@ -9,12 +11,11 @@ ghost use Rattle.tables.specs.Meaning.{file_of};
 use super::Tables;
 use crate::costs::least_costs;
 use crate::partners::partners;
-use crate::readings::start_of;
-use nodes::choosing::has_empty;
-use nodes::node::Node;
+use files::TableView;
+use nodes::Node;
 use problems::Problem;
 use propagation::Constraints;
-use table_files::TableView;
+use std::array;
 use words::{change, only};
 
 impl<'a> Tables<'a> {
@@ -39,27 +40,30 @@ impl<'a> Constraints for Tables<'a> {
     }
 
     fn touches(&self, k: usize) -> u32 {
-        match self.view.ends(k) {
-            Ok((x, y)) => only(x as u32) | only(y as u32),
-            Err(_) => 0,
-        }
+        self.view
+            .ends(k)
+            .map_or(0, |(x, y)| only(u32::from(x)) | only(u32::from(y)))
     }
 
     fn revise(&self, k: usize, node: &mut Node) -> u32 {
         let Ok((x, y)) = self.view.ends(k) else {
             return 0;
         };
-        let wx = node.words[x as usize];
-        let wy = node.words[y as usize];
+        let (i, j) = (usize::from(x), usize::from(y));
+        let (wx, wy) = (node.words[i], node.words[j]);
         let (kx, ky) = partners(&self.view, k, wx, wy);
-        node.words[x as usize] = kx;
-        node.words[y as usize] = ky;
-        change(x as u32, wx, kx) | change(y as u32, wy, ky)
+        node.words[i] = kx;
+        node.words[j] = ky;
+        change(u32::from(x), wx, kx) | change(u32::from(y), wy, ky)
     }
+
+    ghost sane = { λ s. network_sane (bytes_of s.view) s.view.ok };
 }
 
 impl<'a> Problem for Tables<'a> {
     type Cost = (u32, u32);
+
+    ghost costs = { Prim.hlevel props };
 
     ghost start = { λ s. start_of (bytes_of s.view) };
 
@@ -70,24 +74,21 @@ impl<'a> Problem for Tables<'a> {
     ghost less = { less };
 
     fn start(&self) -> Node {
-        let mut words = [0; 32];
-        for i in 0..self.view.variables() {
-            words[i] = start_of(&self.view, i);
-        }
+        let words = array::from_fn(|i| self.view.start(i).unwrap_or(0));
         Node { words }
     }
 
     fn bound(&self, node: &Node) -> Option<(u32, u32)> {
         let width = self.view.variables();
-        if has_empty(node, width) {
+        if node.has_empty(width) {
             return None;
         }
         let mut stops = 0;
         let mut minutes = 0;
-        for i in 0..width {
-            let (s, m) = least_costs(&self.view, i, node.words[i]);
-            stops += s as u32;
-            minutes += m as u32;
+        for (i, word) in node.words[..width].iter().enumerate() {
+            let (s, m) = least_costs(&self.view, i, *word);
+            stops += u32::from(s);
+            minutes += u32::from(m);
         }
         Some((stops, minutes))
     }
@@ -95,6 +96,6 @@ impl<'a> Problem for Tables<'a> {
     fn less(a: (u32, u32), b: (u32, u32)) -> bool
         ensures { result ≡ less a b }
     {
-        a.0 < b.0 || a.0 == b.0 && a.1 < b.1
+        a < b
     }
 }

@@ -1,21 +1,11 @@
-use Rattle.std.proofs.Common.{◌≡◌, ◌<◌, ◌≤◌, true, length, drop, arith}
-use Rattle.std.proofs.lemmas.List.{at_drop_all}
-use Rattle.std.proofs.lemmas.Bool.Decides.{nat_tests}
-use Rattle.records.specs.Checks.{zeros}
-use Rattle.records.proofs.Steps.{zeros_more}
+use Rattle.std.proofs.Common.{◌∙◌, ◌&&◌, true, nat_eq, rules}
+use borrow.Author.Tests.{tests}
+use Rattle.std.proofs.lemmas.Iterator.{YieldsList-from_slice}
+use Rattle.std.proofs.lemmas.Iterator.Consumers.{fold_from_yields_List}
+use Rattle.records.proofs.Steps.{zeros_over}
 use Rattle.records.proofs.checks.all_zero.Goals as goal
-
-pub returns-then-x-ne0 : goal.returns-then-x-ne0
-returns-then-x-ne0 c =
-    let l : c.loop-x.x-index < length c.args.part.now = omega arith in
-    let m = zeros_more c.args.part.now c.loop-x.x-index l in grind (arith, nat_tests)
-
-pub loop-x-preserved : goal.loop-x-preserved
-loop-x-preserved c =
-    let l : c.loop-x.x-index < length c.args.part.now = omega arith in
-    let m = zeros_more c.args.part.now c.loop-x.x-index l in grind (arith, nat_tests)
 
 pub returns : goal.returns
 returns c =
-    let l : length c.args.part.now ≤ c.loop-x.x-index = omega arith in
-    let m : zeros (drop c.loop-x.x-index c.args.part.now) ≡ true = at_drop_all zeros _ _ l in cc
+    fold_from_yields_List _ (λ z x. z && nat_eq x 0) true c.fold.result c.fold.ensures.ran (YieldsList-from_slice c.args.part.now cc) (λ a x b q k. search (rules, tests))
+    ∙ zeros_over true c.args.part.now

@@ -1,11 +1,7 @@
-use Rattle.std.proofs.Common.{◌≡◌, length}
-use Rattle.scripts.specs.declared.parts.Separator.TheVariants.{Slash}
-use Rattle.scripts.specs.Parts.{split}
-use Rattle.scripts.specs.Stacks.{stack_under, stack_of}
+use Rattle.std.proofs.Common.{◌≡◌, length, drop, ◌==◌}
+use Rattle.std.specs.List.{slice_split}
+use Rattle.scripts.specs.Stacks.{stack_of, stack_under}
 use Rattle.scripts.proofs.stack.read_stack.Given as goal
 
-abbrev pub invariant-loop-gap : goal.invariant-loop-gap
-invariant-loop-gap l = stack_under l.above (split Slash l.rest) ≡ stack_of l.text
-
-abbrev pub decreases-loop-gap : goal.decreases-loop-gap
-decreases-loop-gap l = length l.rest
+abbrev pub invariant-loop-part : goal.invariant-loop-part
+invariant-loop-part l = stack_under l.above (drop (length l.yielded) (slice_split (λ b. b == 47) l.text)) ≡ stack_of l.text

@@ -1,14 +1,15 @@
-use Rattle.std.proofs.Common.{◌∙◌, arith, length-set}
-use Rattle.trails.proofs.Kept.{marks_more}
+use Rattle.std.proofs.Common.{List, reverse, ap, ◌∙◌, rules}
+use Rattle.trails.specs.declared.entry.Mark.{Mark}
+use Rattle.trails.specs.Entries.{parts}
+use Rattle.trails.proofs.Kept.{marks_more, marks_full}
 use Rattle.trails.proofs.table.Trail.mark.Goals as goal
 
-pub invariant_of-self : goal.invariant_of-self
-invariant_of-self c =
+pub returns-then-not-is_full : goal.returns-then-not-is_full
+returns-then-not-is_full c =
     let t = c.args.self.now in
-    let m = marks_more t.entries t.marks t.count c.end.result (omega (arith, t.long.1)) (omega arith) t.ok c.end.ensures in
-    record { long = (t.long.0, length-set _ _ _ ∙ t.long.1); few = omega arith; ok = m.1 }
+    ap (λ (ms : List Mark). parts t.entries (reverse ms)) c.push.ensures.items ∙ (marks_more t.entries t.marks.items c.end-start.result (search rules) t.ok c.end-start.ensures).0
 
-pub returns-then-self-lt32 : goal.returns-then-self-lt32
-returns-then-self-lt32 c =
+pub returns-else-not-is_full : goal.returns-else-not-is_full
+returns-else-not-is_full c =
     let t = c.args.self.now in
-    (marks_more t.entries t.marks t.count c.end.result (omega (arith, t.long.1)) (omega arith) t.ok c.end.ensures).0
+    marks_full t.entries t.marks.items (search rules)

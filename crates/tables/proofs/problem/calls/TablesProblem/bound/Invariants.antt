@@ -1,4 +1,4 @@
-use Rattle.table_files.specs.Meaning.{bytes_of}
+use Rattle.files.specs.Meaning.{bytes_of}
 use Rattle.records.specs.Tables.{stops, minutes}
 use Rattle.table_networks.proofs.Prices.{Summed}
 use Rattle.tables.proofs.problem.calls.TablesProblem.bound.Given as goal

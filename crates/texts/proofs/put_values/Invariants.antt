@@ -1,7 +1,0 @@
-use Rattle.std.proofs.Common.{◌≡◌, ◌++◌, get_or, string_bytes}
-use lib.Count.{count_trailing_zeros}
-use Rattle.texts.specs.Texts.{listed}
-use Rattle.texts.proofs.put_values.Given as goal
-
-abbrev pub invariant-loop-i : goal.invariant-loop-i
-invariant-loop-i l = string_bytes l.text ≡ string_bytes l.initial.text ++ listed (λ k. count_trailing_zeros 32 (get_or l.node.words k 0)) l.i

@@ -1,5 +1,0 @@
-use Rattle.traces.proofs.Arrays.{length_newest}
-use Rattle.traces.proofs.Trace.due.Goals as goal
-
-pub returns : goal.returns
-returns c = rw length_newest
