@@ -12,11 +12,8 @@ ghost use Rattle.bare.specs.Steps;
 use nodes::node::Node;
 use problems::{Problem, child_within, root};
 use space::refusal::Refusal;
-use space::{Loadable, Space};
+use space::{LIMIT, Loadable, Space};
 use trees::Status;
-
-/// The most commits that a space allows.
-const LIMIT: u64 = 1_000_000_000_000;
 
 /// A problem's tree and the node where a search stands in it. It holds no nodes to go back to but the root.
 #[derive(Drop)]
@@ -113,6 +110,7 @@ impl<P: Problem> Space for Bare<P> {
         self.problem.width() as u8
     }
 
+    // not shared with another space without layers: only the numbers are alike
     fn capacity(&self) -> u8 {
         0
     }

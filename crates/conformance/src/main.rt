@@ -2,17 +2,15 @@
 #![tactic(auto)]
 
 use planner::report;
+use records::MOST_BYTES;
 use std::io::Read;
 use std::{env, fs};
-
-/// The bytes of 401 records, one more than a file may have: what lies beyond is not read.
-const MOST: u64 = 54_536;
 
 fn main(rt: HostRuntime) -> anyhow::Result<()> {
     for name in env::args(&rt)?.skip(1) {
         let mut bytes = Vec::new(rt.alloc());
         fs::open(&rt, name.as_str())?
-            .take(MOST)
+            .take(MOST_BYTES)
             .read_to_end(&mut bytes)?;
         let text = report(rt.alloc(), &bytes)?;
         println!(rt; "{name}")?;

@@ -32,6 +32,7 @@ pub trait Filed<'a>: Problem {
         ensures { result ≡ (if empty_below (Self.Constraints.network self.now).width node.now.words then None else Some (reading.price (Self.Problem.bound self.now node.now.words))) };
 }
 
+// `open` stands in each impl: what differs is the type of the view, which is filled by its own call
 impl<'a> Filed<'a> for Tables<'a> {
     ghost reading = { table_reading };
 

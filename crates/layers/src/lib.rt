@@ -24,12 +24,10 @@ pub struct Layer<S: Space, K: Keeper<S>> {
 
 impl<S: Space, K: Keeper<S>> Layer<S, K> {
     /// A layer over a space, which is reset; nothing is held.
-    pub fn new(below: S, keeper: K) -> Layer<S, K>
+    pub fn new(mut below: S, mut keeper: K) -> Layer<S, K>
         ensures means { ⟦<Layer<S, K> as Space>⟧.meaning result ≡ made_over (S.Space.meaning below) (K.Keeper.capacity keeper) }
         ensures clears { K.Keeper.Clears keeper result.keeper }
     {
-        let mut below = below;
-        let mut keeper = keeper;
         below.reset();
         keeper.clear(&below);
         Layer { below, keeper }

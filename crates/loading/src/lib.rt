@@ -26,7 +26,7 @@ pub fn copy_out<S: Space>(space: &S) -> Node
 pub fn load<S: Loadable>(space: &mut S, node: Node)
     ensures { S.Space.meaning space.new ≡ placed (S.Space.meaning space.old) (S.Space.named (take (S.Space.meaning space.old).width node.words)) (S.Space.meaning space.old).held }
 {
-    // i is the number by which a space is told to set a word
+    // by number, as a space is told; a zip with the words would be no plainer
     for i in 0..space.width() {
         let _ = space.set(i, node.words[i as usize]);
     }

@@ -33,7 +33,7 @@ impl Node {
         // a loop, since `min_by_key` promises the first of equals only with the number in its key, and is slower so
         let mut fewest: Option<(u32, usize, u32)> = None;
         for (x, word) in words.iter().enumerate() {
-            let count = values(word);
+            let count = size(word);
             if count > 1 && fewest.is_none_or(|(least, _, _)| count < least) {
                 fewest = Some((count, x, *word));
             }
@@ -48,20 +48,20 @@ impl Node {
     pub fn rest(&self, width: usize) -> u32
         ensures { result ≡ rest width self.now.words }
     {
-        match self.filled(width) {
-            Some(words) => words.iter().map(values).sum::<u32>() - words.len() as u32,
-            None => 0,
-        }
+        self.filled(width).map_or(
+            0,
+            |words| words.iter().map(size).sum::<u32>() - words.len() as u32,
+        )
     }
 
     /// The words with more than one value; 0 at a failed node.
     pub fn reach(&self, width: usize) -> u32
         ensures { result ≡ reach width self.now.words }
     {
-        match self.filled(width) {
-            Some(words) => words.iter().filter(|word| values(word) > 1).count() as u32,
-            None => 0,
-        }
+        self.filled(width).map_or(
+            0,
+            |words| words.iter().filter(|word| size(word) > 1).count() as u32,
+        )
     }
 
     // the first words, if none of them is empty
@@ -73,7 +73,7 @@ impl Node {
 }
 
 // how many values a word holds
-fn values(word: &u32) -> u32
+fn size(word: &u32) -> u32
     ensures value { result ≡ count_ones word.now }
     ensures most { result ≤ 32 }
 {

@@ -31,6 +31,7 @@ pub trait Problem: Constraints {
 
     ghost less: { Self.Cost → Self.Cost → Bool };
 
+    // `lawful` is a promise of this call, no law: it needs the range of a file's bytes, which no law sees
     /// The node of all start words.
     fn start(&self) -> Node
         ensures value { result.words ≡ start self.now }
@@ -74,7 +75,7 @@ pub fn child_within<P: Problem>(
     node: Node,
     choice: (u8, u8),
     alternative: u8,
-    // what the caller knows of the node; a type of closed nodes would ask for more than a word
+    // a claim about the node; a type of closed nodes would ask the caller for a proof
     closed: bool,
 ) -> Node
     ensures value { (closed ≡ true → Supported (P.Constraints.network problem.now) node.words) → result.words ≡ closure (P.Constraints.network problem.now) (narrowed node.words choice.0 choice.1 alternative) }

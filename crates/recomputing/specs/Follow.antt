@@ -4,7 +4,9 @@ use Rattle.std.proofs.lemmas.List.{take-append-le}
 use Rattle.trees.specs.Trees.{Tree, Chooses, Orderly}
 use Rattle.space.specs.Meaning.{Meaning}
 use Rattle.space.specs.Laws.{AllProper, Lawful}
+use Rattle.space.specs.Layers.{layered}
 use Rattle.layers.specs.Moves.{Keeps}
+use Rattle.layers.specs.Laws as laws
 use Rattle.traces.specs.Lines.{Line, top}
 use Rattle.recomputing.specs.Agreement.{Agrees}
 use Rattle.recomputing.specs.Paths.{follow, Legal, nodes, Descends}
@@ -78,3 +80,7 @@ keeps_nodes m l few w a = record {
   few = omega arith;
   room = omega (arith, length_nodes m.tree l.path l.depths, few);
 }
+
+-- the layer over a lawful space is lawful
+pub lawful_over : {N C : Type 0} (m : Meaning N C) {less : C → C → Bool} (l : Line) → length l.depths ≤ 32 → Lawful m less → Agrees m l → Lawful (layered m 32 (nodes m.tree l.path l.depths)) less
+lawful_over m l few w a = laws.lawful_over m 32 (nodes m.tree l.path l.depths) w (keeps_nodes m l few w a)

@@ -52,7 +52,7 @@ fn to_checkpoint<S: Space>(below: &mut S)
 fn redo_path<S: Space>(below: &mut S, trace: &Trace, from: u16, to: u16)
     ensures { Redoable (S.Space.meaning below.old) trace.now.path from to → S.Space.meaning below.new ≡ at_depth (S.Space.meaning below.old) trace.now.path to }
 {
-    // not over a slice of the path: the trace answers each step, and past its end too
+    // step by step, not over a slice of the path: a slice would need its ends within the path, and the trace answers any step
     for k in from..to {
         let _ = below.redo(trace.alternative(k));
     }

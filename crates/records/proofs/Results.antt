@@ -1,6 +1,9 @@
--- What `map_err` hands on, with its `?`.
-use Rattle.std.proofs.Common.{◌≡◌, ℕ, Ok, Err, Result}
+-- What `map_err` hands on, with its `?`, and what a lookup hands on through `ok_or`.
+use Rattle.std.proofs.Common.{◌≡◌, ℕ, ◌+◌, ◌-◌, ◌<◌, ◌≤◌, List, length, take, drop, get_or, [], ◌∙◌, Option, Some, None, Ok, Err, Result, Bor, arith}
+use Rattle.std.proofs.lemmas.List.{get_or-take, get_or-drop, length-take, length-drop}
+use Rattle.std.specs.Option.{ok_or}
 use Rattle.std.specs.Result.{MatchResult, IsErrAnd}
+use Rattle.std.specs.Slice.{IsItemAt}
 use Rattle.records.specs.declared.refusal.Cause.{Cause}
 use Rattle.records.specs.declared.refusal.Refusal.{Refusal}
 
@@ -17,3 +20,15 @@ made_err P Q S (Err y) q d h g e = (y, h, rw e at g)
 -- the refusal of a record for a cause
 abbrev pub at_record : Cause → ℕ → Refusal
 at_record c k = record { cause = c; «record» = k }
+
+-- what `get` finds, or the error that `ok_or` puts in its place
+pub looked_up : {E : Type 0} (P : Bor (List ℕ) → Type 0) (Q : E → Type 0) (xs : List (List ℕ)) (k : ℕ) (o : Option (Bor (List ℕ))) (e : E) (r : Result (Bor (List ℕ)) E) → IsItemAt xs k o → r ≡ ok_or o e → ((x : Bor (List ℕ)) → k < length xs → x.now ≡ get_or xs k [] → P x) → (length xs ≤ k → Q e) → MatchResult r P Q
+looked_up P Q xs k None e r h g p q = rw g (q h.3)
+looked_up P Q xs k (Some x) e r h g p q = rw g (p x h.3.0 (h.4 (omega arith) []))
+
+-- the records from number n on: how many, and which
+pub rest_length : (xs : List (List ℕ)) (n : ℕ) → length (take (length xs - n) (drop n xs)) ≡ length xs - n
+rest_length xs n = simp (length-take, length-drop) (omega arith)
+
+pub rest_at : (xs : List (List ℕ)) (n k : ℕ) → k < length (take (length xs - n) (drop n xs)) → get_or (take (length xs - n) (drop n xs)) k [] ≡ get_or xs (n + k) []
+rest_at xs n k h = get_or-take (length xs - n) (drop n xs) k [] (omega (arith, rest_length xs n)) ∙ get_or-drop n xs k []

@@ -5,6 +5,9 @@ ghost use Rattle.records.specs.Checks.{line, count};
 /// How many bytes a record has.
 pub const RECORD: usize = 136;
 
+/// The bytes of 401 records, one more than a file may have: a program reads no more.
+pub const MOST_BYTES: u64 = 54_536;
+
 /// A record, as the file has it.
 pub type Line = [u8; RECORD];
 
@@ -55,8 +58,5 @@ pub fn line_at(bytes: &[u8], k: usize) -> &[u8]
     ensures size { k < count bytes.now → length result.now ≡ 136 }
     ensures none { count bytes.now ≤ k → length result.now ≡ 0 }
 {
-    match lines_of(bytes).get(k) {
-        Some(line) => line,
-        None => &[],
-    }
+    lines_of(bytes).get(k).map_or(&[], |line| line)
 }

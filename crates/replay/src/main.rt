@@ -1,13 +1,11 @@
 //! Makes the calls of a script on a stack of layers over the space of a record file, and prints the answers.
 #![tactic(auto)]
 
+use records::MOST_BYTES;
 use replays::replay_file;
 use requests::{Unread, read_request};
 use std::io::Read;
 use std::{env, fs};
-
-/// The bytes of 401 records, one more than a file may have: what lies beyond is not read.
-const MOST: u64 = 54_536;
 
 fn main(rt: HostRuntime) -> anyhow::Result<()> {
     let mut words = env::args(&rt)?.skip(1);
@@ -30,7 +28,7 @@ fn replay(rt: &HostRuntime, stack: &str, number: &str, script: &str) -> anyhow::
         Err(Unread::Memory) => println!(rt; "no memory for {script}")?,
         Ok(request) => {
             let mut bytes = Vec::new(rt.alloc());
-            rt.stdin().take(MOST).read_to_end(&mut bytes)?;
+            rt.stdin().take(MOST_BYTES).read_to_end(&mut bytes)?;
             rt.print(replay_file(rt.alloc(), &bytes, &request)?)?;
         }
     }

@@ -1,7 +1,7 @@
 //! The answers of a space as text, a line each.
 #![tactic(auto)]
 
-ghost use Rattle.std.specs.Prelude.{◌≡◌, ℕ, List, IfOk, Some, string_bytes, decimal};
+ghost use Rattle.std.specs.Prelude.{◌≡◌, ℕ, List, ◌++◌, IfOk, OnOk, Some, string_bytes, decimal};
 ghost use Rattle.std.specs.Fmt.{WritesOnOk, signed_decimal};
 ghost use Rattle.std.proofs.Common.{rules};
 ghost use Rattle.reply_texts.specs.Replies.{answers_text, pair_text, printed};
@@ -15,8 +15,27 @@ pub trait Shown: Copy {
     ghost shown: { Self → List ℕ };
 
     /// Writes the cost.
-    fn put<W: fmt::Write>(self, f: &mut fmt::Formatter<W>) -> fmt::Result
+    fn show<W: fmt::Write>(self, f: &mut fmt::Formatter<W>) -> fmt::Result
         ensures { WritesOnOk W.write_str_gives f.old result (shown self) f.new };
+}
+
+/// Adds a cost to a text.
+pub fn put<C: Shown>(cost: C, text: &mut String) -> Result<(), AllocError>
+    ensures { OnOk result (string_bytes text.new ≡ string_bytes text.old ++ C.Shown.shown cost) }
+{
+    write!(text, "{}", Cost(cost))
+}
+
+/// A cost, as it prints.
+#[derive(Clone, Copy)]
+struct Cost<C>(C);
+
+impl<C: Shown> fmt::Display for Cost<C> {
+    ghost output = { λ c. Some (C.Shown.shown c.0) };
+
+    fn fmt<W: fmt::Write>(&self, f: &mut fmt::Formatter<W>) -> fmt::Result {
+        self.0.show(f)
+    }
 }
 
 /// A number: it is written as it prints itself.
@@ -41,7 +60,7 @@ impl Number for u16 {
 impl<N: Number> Shown for N {
     ghost shown = { N.Number.digits };
 
-    fn put<W: fmt::Write>(self, f: &mut fmt::Formatter<W>) -> fmt::Result {
+    fn show<W: fmt::Write>(self, f: &mut fmt::Formatter<W>) -> fmt::Result {
         write!(f, "{self}")
     }
 }
@@ -50,7 +69,7 @@ impl<N: Number> Shown for N {
 impl Shown for (u32, u32) {
     ghost shown = { pair_text };
 
-    fn put<W: fmt::Write>(self, f: &mut fmt::Formatter<W>) -> fmt::Result {
+    fn show<W: fmt::Write>(self, f: &mut fmt::Formatter<W>) -> fmt::Result {
         let (stops, minutes) = self;
         write!(f, "{stops}/{minutes}")
     }
@@ -67,7 +86,7 @@ impl<'a, C: Shown> fmt::Display for Printed<'a, C> {
         match self.0 {
             Ok(Reply::Done) => f.write_str("done"),
             Ok(Reply::Node(status)) => status.fmt(f),
-            Ok(Reply::Cost(cost)) => cost.put(f),
+            Ok(Reply::Cost(cost)) => cost.show(f),
             Ok(Reply::Number(number)) => number.fmt(f),
             Err(refusal) => refusal.fmt(f),
         }
@@ -95,4 +114,18 @@ pub fn answers_text<C: Shown>(heap: Global, answers: &[Answer<C>]) -> Result<Str
     ensures { IfOk result (λ s. string_bytes s ≡ answers_text C.Shown.shown answers.now) }
 {
     Lines(answers).to_string(heap)
+}
+
+#[cfg(test)]
+mod tests {
+    use super::*;
+    use std::test::Fail;
+
+    #[test]
+    fn a_pair_is_written_with_a_slash(rt: HostRuntime) -> Result<(), Fail> {
+        let mut text = String::new(rt.alloc());
+        put((2u32, 30u32), &mut text)?;
+        assert_eq!(rt; text.as_str(), "2/30");
+        Ok(())
+    }
 }

@@ -2,14 +2,12 @@
 #![tactic(auto)]
 
 use planner::report;
+use records::MOST_BYTES;
 use std::io::Read;
-
-/// The bytes of 401 records, one more than a file may have: what lies beyond is not read.
-const MOST: u64 = 54_536;
 
 fn main(rt: HostRuntime) -> anyhow::Result<()> {
     let mut bytes = Vec::new(rt.alloc());
-    rt.stdin().take(MOST).read_to_end(&mut bytes)?;
+    rt.stdin().take(MOST_BYTES).read_to_end(&mut bytes)?;
     let text = report(rt.alloc(), &bytes)?;
     rt.print(text)?;
     Ok(())

@@ -1,8 +1,7 @@
 ghost use Rattle.std.specs.Prelude.{◌≡◌};
 ghost use Rattle.scripts.specs.Numbers.{capped, digit_of, value};
 
-/// A number above this counts as this.
-const LIMIT: u64 = 1_000_000_000_000;
+use space::LIMIT;
 
 /// The value of a decimal digit; none for any other byte.
 fn digit(byte: u8) -> Option<u8>
@@ -11,7 +10,7 @@ fn digit(byte: u8) -> Option<u8>
     byte.is_ascii_digit().then(|| byte - b'0')
 }
 
-/// The number that a text of decimal digits writes, at most a million million; none for any other text.
+/// The number that a text of decimal digits writes, at most as many as commits can be; none for any other text.
 pub fn read_number(text: &[u8]) -> Option<u64>
     ensures { result ≡ capped 1000000000000 (value text.now) }
 {

@@ -9,6 +9,9 @@ ghost use Rattle.space.specs.Calls.{Commits, Redoes, Marks, Restores, Forgets, S
 use refusal::Refusal;
 use trees::Status;
 
+/// The most commits that a space allows.
+pub const LIMIT: u64 = 1_000_000_000_000;
+
 pub mod refusal;
 mod text;
 

@@ -8,15 +8,12 @@ ghost use Rattle.staircase.specs.Stairs.{foot, standing, Stands, stands_prop};
 ghost use Rattle.staircase.specs.Climbing;
 
 use arrayvec::ArrayVec;
-use space::Space;
 use space::refusal::Refusal;
+use space::{LIMIT, Space};
 use stair::{START, Stair};
 use trees::Status;
 
 mod stair;
-
-/// The most commits that a space allows.
-const LIMIT: u64 = 1_000_000_000_000;
 
 /// A climber on a staircase of ten stairs, who climbs one or two stairs with each step, and takes eight steps at most.
 #[derive(Drop)]
@@ -85,6 +82,7 @@ impl Space for Staircase {
         1
     }
 
+    // not shared with another space without layers: only the numbers are alike
     fn capacity(&self) -> u8 {
         2
     }

@@ -37,6 +37,7 @@ fn tail_zero(line: &Line, n: u8) -> bool
 fn check_objective(line: &Line, n: u8) -> Result<(), Cause>
     ensures { MatchResult result (λ _. objective_code line.now n ≡ 0) (λ e. objective_code line.now n ≡ number e) }
 {
+    // the rest is not named: `rest @ ..` is not covered behind a reference to an array
     let [_kind, _n, b, c, ..] = line;
     if *b != 0 || *c != 0 || read_u32(line, 4) != 0 || !tail_zero(line, n) {
         return Err(Cause::Zero);

@@ -1,7 +1,7 @@
-use Rattle.std.proofs.Common.{◌≡◌, ℕ, zero, suc, ◌+◌, ◌^◌, ◌<◌, ◌≤◌, Bool, true, false, cond, ◌&&◌, ltb, List, length, get_or, set, ℤ, pos, negsuc, ◌+ℤ◌, ◌-ℤ◌, ◌*ℤ◌, ◌≤ℤ◌, sym, refl, ap, ◌∙◌, subst, inl, inr, add-zero, add-one, arith, w64, to_z, of_z}
+use Rattle.std.proofs.Common.{◌≡◌, ℕ, zero, suc, ◌+◌, ◌^◌, ◌<◌, ◌≤◌, Bool, true, false, cond, ◌&&◌, ltb, List, ◌++◌, length, get_or, set, take, drop, ℤ, pos, negsuc, ◌+ℤ◌, ◌-ℤ◌, ◌*ℤ◌, ◌≤ℤ◌, sym, refl, ap, ◌∙◌, subst, inl, inr, add-zero, add-one, arith, w64, to_z, of_z}
 use lib.Signed.{le_z}
 use lib.Bits.{bit_or}
-use Rattle.std.proofs.lemmas.List.{get_or-set_same, get_or-set_other, length-set, ext_get_or, get_or_past}
+use Rattle.std.proofs.lemmas.List.{get_or-set_same, get_or-set_other, get_or_append_left, get_or-append_right, length-set, length-append, length-take, take-append-drop, ext_get_or, get_or_past}
 use Rattle.std.proofs.lemmas.Nat.{or_comm}
 use Rattle.std.proofs.lemmas.Int.{ints, to_z-of_z}
 use Rattle.std.proofs.lemmas.Bool.{cases_eq, cases_lt, cases_Bool, both_ways, or_cases, or_parts, and_right, le-ltb, cond-false}
@@ -62,6 +62,36 @@ module _ (passes : ℕ → ℕ → Bool) (n m out : List ℕ) (i d k ch : ℕ) (
   pub one_more : Kept passes n out (i + 1) (bit_or d ch)
   one_more = let P : List ℕ → Type 0 = (λ x. Kept passes n x (i + 1) (bit_or d ch)) in subst P (sym written) after
 
+-- the words before a place are cut, and the others stay behind them
+module _ (passes : ℕ → ℕ → Bool) (a m r : List ℕ) (w d : ℕ) (la : length a ≡ w) (s : Kept passes a m w d) where
+  lm : length m ≡ w
+  lm = s.differ.long ∙ la
+
+  front : (x : List ℕ) → length x ≡ w → (j : ℕ) → j < w → get_or (x ++ r) j 0 ≡ get_or x j 0
+  front x l j h = get_or_append_left x r 0 j (omega (arith, l))
+
+  behind : (j : ℕ) → w ≤ j → get_or (m ++ r) j 0 ≡ get_or (a ++ r) j 0
+  behind j g = get_or-append_right m r w j 0 lm g ∙ sym (get_or-append_right a r w j 0 la g)
+
+  with_others : Kept passes (a ++ r) (m ++ r) w d
+  with_others = record {
+    done = λ j v l. ap (λ (x : ℕ). bit x v) (front m lm j l) ∙ s.done j v l ∙ ap (λ (x : ℕ). bit x v && passes j v) (sym (front a la j l));
+    ahead = behind;
+    differ = record {
+      long = omega (arith, length-append m r, length-append a r, lm, la);
+      same = λ j f. elim (cases_lt j w) [ inl l ↦ front m lm j l ∙ s.differ.same j f ∙ sym (front a la j l) | inr g ↦ behind j g ];
+      other = λ j t e. elim (cases_lt j w) [
+        | inl l ↦ s.differ.other j t (sym (front m lm j l) ∙ e ∙ front a la j l)
+        | inr g ↦ s.differ.other j t (get_or_past m j 0 (omega (arith, lm)) ∙ sym (get_or_past a j 0 (omega (arith, la))))
+      ];
+    };
+  }
+
+pub joined : (passes : ℕ → ℕ → Bool) (n m : List ℕ) (w d : ℕ) → w ≤ length n → Kept passes (take w n) m w d → Kept passes n (m ++ drop w n) w d
+joined passes n m w d l s =
+    let P : List ℕ → Type 0 = (λ x. Kept passes x (m ++ drop w n) w d) in
+    subst P (take-append-drop w n) (with_others passes (take w n) m (drop w n) w d (omega (arith, length-take w n)) s)
+
 -- nothing stays in an empty word
 pub no_bit : (w v : ℕ) → bit 0 v ≡ (bit w v && false)
 no_bit w v = bit_zero v ∙ sym (and_right (bit w v) false refl)
@@ -74,15 +104,15 @@ moved r t l x s e = same_bool (le_z ((r -ℤ t) +ℤ l) x) (le_z r (x +ℤ s))
     (λ h. le_le_z r (x +ℤ s) (let q = le_z_true ((r -ℤ t) +ℤ l) x h in omega (arith, ints)))
     (λ h. le_le_z ((r -ℤ t) +ℤ l) x (let q = le_z_true r (x +ℤ s) h in omega (arith, ints)))
 
-pub reached : (s : Sum) (width : ℕ) (n m : List ℕ) (i d : ℕ) (need : ℤ) (k : ℕ) → i < width → Kept (reaches s width n) n m i d
+pub reached : (s : Sum) (width : ℕ) (n m : List ℕ) (i : ℕ) (need : ℤ) (k : ℕ) → i < width → get_or m i 0 ≡ get_or n i 0
     → need ≡ (s.least -ℤ totals s.coefficient n width) +ℤ largest (s.coefficient i) (get_or m i 0) → Reaching (s.coefficient i) (get_or m i 0) need k
     → (v : ℕ) → bit k v ≡ (has m i v && reaches s width n i v)
-reached s width n m i d need k l q e reach v =
+reached s width n m i need k l q e reach v =
     reach v ∙ ap (λ (z : ℤ). has m i v && le_z z (s.coefficient i *ℤ pos v)) e
     ∙ ap (λ (t : Bool). has m i v && t) (moved s.least (totals s.coefficient n width) (largest (s.coefficient i) (get_or m i 0)) (s.coefficient i *ℤ pos v) (rest s.coefficient n i width) split)
   where
     split : totals s.coefficient n width ≡ rest s.coefficient n i width +ℤ largest (s.coefficient i) (get_or m i 0)
-    split = rest_is (λ j. largest (s.coefficient j) (get_or n j 0)) i width l ∙ ap (λ (w : ℕ). rest s.coefficient n i width +ℤ largest (s.coefficient i) w) (sym (q.ahead i (omega arith)))
+    split = rest_is (λ j. largest (s.coefficient j) (get_or n j 0)) i width l ∙ ap (λ (w : ℕ). rest s.coefficient n i width +ℤ largest (s.coefficient i) w) (sym q)
 
 -- ---- the two ways to a revised node
 

@@ -92,18 +92,12 @@ module _ (c : ℤ) (w : ℕ) (ne : w ≡ 0 → ⊥) where
 
 -- ---- what follows from the words alone
 
-≤ℤ-anti : (a b : ℤ) → a ≤ℤ b → b ≤ℤ a → a ≡ b
-≤ℤ-anti a b h k = omega (arith, ints)
-
 -- fewer values, a smaller largest product and a larger least one
 pub most_le : (c : ℤ) (a b : ℕ) (x y : ℤ) → ((v : ℕ) → bit a v ≡ true → bit b v ≡ true) → Most c a x → Most c b y → x ≤ℤ y
 most_le c a b x y f p q = let P : ℤ → Type 0 = (λ z. z ≤ℤ y) in subst P (sym p.is) (q.bound p.value (f p.value p.there))
 
 pub least_le : (c : ℤ) (a b : ℕ) (x y : ℤ) → ((v : ℕ) → bit a v ≡ true → bit b v ≡ true) → Least c a x → Least c b y → y ≤ℤ x
 least_le c a b x y f p q = let P : ℤ → Type 0 = (λ z. y ≤ℤ z) in subst P (sym p.is) (q.bound p.value (f p.value p.there))
-
-pub most_unique : (c : ℤ) (w : ℕ) (a b : ℤ) → Most c w a → Most c w b → a ≡ b
-most_unique c w a b x y = ≤ℤ-anti a b (most_le c w w a b (λ v h. h) x y) (most_le c w w b a (λ v h. h) y x)
 
 -- a word that is not 0 has no fewer values than none
 pub filled_up : (a b : ℕ) → ((v : ℕ) → bit a v ≡ true → bit b v ≡ true) → (a ≡ 0 → ⊥) → b ≡ 0 → ⊥

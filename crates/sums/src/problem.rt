@@ -10,7 +10,7 @@ pub mod calls;
 #[derive(Drop)]
 pub struct Sums<'a> {
     view: SumView<'a>,
-    // as many as a file can have, in the value itself: a space uses no heap
+    // a plain array: a sum that is not there touches nothing, so that no length is needed
     touched: [u32; 64],
     ghost ok: { Masks (bytes_of view) touched },
 }

@@ -8,10 +8,9 @@ ghost use Rattle.sum_networks.specs.Steps.{Kept, reaches};
 ghost use Rattle.sum_networks.specs.Files.{sum_at, bound_of};
 
 use crate::products::Coefficient;
-use crate::revising::put;
 use files::SumView;
 use nodes::Node;
-use words::only;
+use words::{change, only};
 
 /// A sum that the file has.
 #[derive(Drop, Clone, Copy)]
@@ -45,7 +44,7 @@ impl<'a> Row<'a> {
     fn touched(&self) -> u32
         ensures { result ≡ mask (sum_at (bytes_of self.now.view.now) self.now.k) (sum_width (bytes_of self.now.view.now)) }
     {
-        // i is the number of a variable, by which the view is asked and the answer told; so below, in `narrow`
+        // i is the number of a variable, by which the view is asked and the answer told
         let mut touched = 0;
         for i in 0..self.view.variables() {
             if self.coefficient(i).value != 0 {
@@ -76,13 +75,15 @@ impl<'a> Row<'a> {
     {
         let least = self.view.least(self.k).unwrap();
         let short = i64::from(least) - self.total(node);
+        // there are no more than 32: said again, it spares a test in each reading
+        let width = self.view.variables().min(32);
         let mut changed = 0;
-        // There are no more than 32: said again, it spares a test in each reading.
-        for i in 0..self.view.variables().min(32) {
+        for (i, word) in node.words[..width].iter_mut().enumerate() {
             let coefficient = self.coefficient(i);
-            let word = node.words[i];
-            let need = short + coefficient.most(word);
-            changed |= put(node, i, coefficient.reaching(word, need));
+            let need = short + coefficient.most(*word);
+            let left = coefficient.reaching(*word, need);
+            changed |= change(i as u32, *word, left);
+            *word = left;
         }
         changed
     }
@@ -95,6 +96,7 @@ pub(crate) fn touched_by(view: &SumView, k: usize) -> u32
     Row::of(view, k).map_or(0, |row| row.touched())
 }
 
+// not one with `Row::coefficient` and `Row::total`: the objective has no number, and its least products are added, not the largest
 /// Coefficient `i` of the objective.
 fn cost(view: &SumView, i: usize) -> Coefficient
     requires { i < sum_width (bytes_of view.now) }

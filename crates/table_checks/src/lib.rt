@@ -12,6 +12,7 @@ use records::{Cause, Kind, Line, Refusal, lines_of, read_u32, whole_count};
 fn check_variable(line: &Line, k: usize, variables: usize) -> Result<(), Cause>
     ensures { MatchResult result (λ _. variable_code line.now k variables ≡ 0) (λ e. variable_code line.now k variables ≡ number e) }
 {
+    // the rest is not named: `rest @ ..` is not covered behind a reference to an array
     let [_kind, name, b, c, ..] = line;
     if variables != k || k >= 32 {
         return Err(Cause::Kind);
@@ -45,6 +46,7 @@ fn check_pair(line: &Line, k: usize, variables: usize) -> Result<(), Cause>
     Ok(())
 }
 
+// three arguments, and no struct: only the count is carried on from line to line
 /// The checks of one record at place `k`, after `variables` variables; the answer counts the variables with it.
 fn check_line(line: &Line, k: usize, variables: usize) -> Result<usize, Cause>
     requires { variables ≤ 32 }

@@ -12,6 +12,7 @@ pub(crate) fn least_costs(view: &TableView, i: usize, word: u32) -> (u16, u16)
     ensures stops { Least (stops (bytes_of view.now) i) word result.0 }
     ensures minutes { Least (minutes (bytes_of view.now) i) word result.1 }
 {
+    // the word is not empty: that is tested once for all words of a node
     let mut stops = u16::MAX;
     let mut minutes = u16::MAX;
     for value in Values::of(word) {

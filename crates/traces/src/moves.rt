@@ -40,6 +40,7 @@ impl Trace {
         self.held() % self.gap == 0
     }
 
+    // depths and checkpoints are alike, but a type for both would leave each of these calls as it is
     /// Holds the node at the path's end; with 32 held nothing changes.
     pub fn hold(&mut self)
         ensures { self.new ≡ held_if_room self.old }

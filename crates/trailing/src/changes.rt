@@ -39,7 +39,7 @@ impl Changes {
         ensures seen { self.new.seen ≡ new }
         ensures capacity { self.new.capacity ≡ self.old.capacity }
     {
-        // i is the number of a word, which its entry names
+        // by number: an entry names its word; a chain of zips would give it too, but leaves more to prove
         for i in 0..width {
             let old = self.seen.words[usize::from(i)];
             if new.words[usize::from(i)] != old {

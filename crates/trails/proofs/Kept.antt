@@ -1,4 +1,4 @@
-use Rattle.std.proofs.Common.{◌≡◌, ℕ, zero, suc, ◌+◌, ◌-◌, ◌*◌, ◌^◌, ◌<◌, ◌≤◌, Bool, true, false, cond, ◌&&◌, eqb, ltb, leb, ◌≢◌, List, [], ◌∷◌, ◌++◌, length, get_or, set, reverse, Some, None, sym, subst, refl, ap, ◌∙◌, add-one, arith, get_or-set_other, get_or-set_same}
+use Rattle.std.proofs.Common.{◌≡◌, ℕ, zero, suc, ◌+◌, ◌-◌, ◌*◌, ◌^◌, ◌<◌, ◌≤◌, Bool, true, false, cond, ◌&&◌, eqb, ltb, leb, ◌≢◌, List, [], ◌∷◌, ◌++◌, length, get_or, set, reverse, Some, sym, subst, refl, ap, ◌∙◌, add-one, arith, get_or-set_other, get_or-set_same}
 use lib.Bits.{bit_or, bit_xor, or_lt}
 use lib.Pow.{pow-lt}
 use lib.Count.{ones-le}
@@ -162,9 +162,6 @@ takes es m ms h pos low =
       });
     }
 
-no_entry : (es : List Entry) (m : Mark) (ms : List Mark) → m.size ≡ 0 → (None ≡ newest_entry (parts es (m ∷ ms))) × (parts es (m ∷ ms) ≡ popped (parts es (m ∷ ms)))
-no_entry es m ms h = rw h (refl, refl)
-
 -- ---- the newest mark m of the marks, over the others o
 
 kept_top : (es : List Entry) (ms : List Mark) (m : Mark) (o : List Mark) → reverse ms ≡ m ∷ o → kept es (reverse ms) ≡ true → kept es (m ∷ o) ≡ true
@@ -234,7 +231,3 @@ pub pops : (es : List Entry) (ms ms' : List Mark) (m : Mark) (o : List Mark) (e 
     → Taken es m o e → Only e.word b
     → (Some e ≡ newest_entry (parts es (reverse ms))) × (parts es (reverse ms') ≡ popped (parts es (reverse ms))) × (kept es (reverse ms') ≡ true)
 pops es ms ms' m o e b was now k one = (rw was k.newest, rw (was, now) (k.rest b), rw now (k.ok b one))
-
-pub pops_none : (es : List Entry) (ms : List Mark) (m : Mark) (o : List Mark) → reverse ms ≡ m ∷ o → m.size ≡ 0
-    → (None ≡ newest_entry (parts es (reverse ms))) × (parts es (reverse ms) ≡ popped (parts es (reverse ms)))
-pops_none es ms m o was h = rw was (no_entry es m o h)

@@ -6,7 +6,7 @@ ghost use Rattle.files.specs.Meaning.{bytes_of};
 
 use super::View;
 use crate::formats::Format;
-use records::{RECORD, Refusal, line_at};
+use records::{RECORD, Refusal, lines_of};
 use std::marker::PhantomData;
 
 impl<'a, F: Format> View<'a, F> {
@@ -45,10 +45,10 @@ impl<'a, F: Format> View<'a, F> {
     pub fn record(&self, k: usize) -> Result<&'a [u8], Refusal>
         ensures { MatchResult result (λ x. (x.now ≡ take 136 (drop (136 * k) (bytes_of self.now))) × (k < count (bytes_of self.now))) (λ e. Missing e k (count (bytes_of self.now))) }
     {
-        if k >= self.count() {
-            return Err(Refusal::absent(k));
-        }
-        Ok(line_at(self.bytes, k))
+        lines_of(self.bytes)
+            .get(k)
+            .map(|line| line.as_slice())
+            .ok_or(Refusal::absent(k))
     }
 
     /// How many variables the file has.

@@ -56,9 +56,6 @@ impl<'a> SumView<'a> {
     fn sum(&self, k: usize) -> Result<&'a Line, Refusal>
         ensures { MatchResult result (λ x. SumLine (bytes_of self.now) k x.now) (λ e. Missing e k (sum_count (bytes_of self.now))) }
     {
-        if k >= self.sums() {
-            return Err(Refusal::absent(k));
-        }
-        Ok(&lines_of(self.bytes)[k + 1])
+        lines_of(self.bytes)[1..].get(k).ok_or(Refusal::absent(k))
     }
 }

@@ -57,19 +57,17 @@ impl<'a> TableView<'a> {
     fn variable(&self, i: usize) -> Result<&'a Line, Refusal>
         ensures { MatchResult result (λ x. VariableLine (bytes_of self.now) i x.now) (λ e. Missing e i (variable_count (bytes_of self.now))) }
     {
-        if i >= self.variables() {
-            return Err(Refusal::absent(i));
-        }
-        Ok(&lines_of(self.bytes)[i])
+        lines_of(self.bytes)[..self.variables]
+            .get(i)
+            .ok_or(Refusal::absent(i))
     }
 
     /// The record of table `k`.
     fn table(&self, k: usize) -> Result<&'a Line, Refusal>
         ensures { MatchResult result (λ x. TableLine (bytes_of self.now) k x.now) (λ e. Missing e k (table_count (bytes_of self.now))) }
     {
-        if k >= self.tables() {
-            return Err(Refusal::absent(k));
-        }
-        Ok(&lines_of(self.bytes)[self.variables + k])
+        lines_of(self.bytes)[self.variables..]
+            .get(k)
+            .ok_or(Refusal::absent(k))
     }
 }

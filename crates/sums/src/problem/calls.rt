@@ -81,6 +81,7 @@ impl<'a> Problem for Sums<'a> {
     }
 
     fn bound(&self, node: &Node) -> Option<i64> {
+        // an `if`, not `then`: of its closure's result the check finds no proof
         if node.has_empty(self.width()) {
             None
         } else {

@@ -69,10 +69,8 @@ impl Trail {
     fn end(&self) -> u16
         ensures { result ≡ top (reverse self.now.marks.items) }
     {
-        let Some(mark) = self.newest() else {
-            return 0;
-        };
-        mark.start + u16::from(mark.size)
+        self.newest()
+            .map_or(0, |mark| mark.start + u16::from(mark.size))
     }
 
     /// Begins a new mark, without entries; a trail with 32 marks stays as it is.

@@ -5,4 +5,4 @@ use Rattle.sum_networks.specs.Files.{sum_at}
 use Rattle.sums.proofs.rows.Row.narrow.Given as goal
 
 abbrev pub invariant-loop-i : goal.invariant-loop-i
-invariant-loop-i l = Kept (reaches (sum_at (bytes_of l.self.view.now) l.self.k) (sum_width (bytes_of l.self.view.now)) l.initial.node.words) l.initial.node.words l.node.words l.i l.changed
+invariant-loop-i l = Kept (reaches (sum_at (bytes_of l.self.view.now) l.self.k) (sum_width (bytes_of l.self.view.now)) l.fn.node.words) l.initial.word-items l.word-items l.i l.changed

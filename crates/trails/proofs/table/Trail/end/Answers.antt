@@ -1,8 +1,9 @@
-use Rattle.std.proofs.Common.{arith}
+use Rattle.std.proofs.Common.{rules}
 use Rattle.trails.proofs.Kept.{ends}
 use Rattle.trails.proofs.table.Trail.end.Goals as goal
 
-pub overflow_add-result : goal.overflow_add-result
-overflow_add-result c =
+pub map_or-requires : goal.map_or-requires
+map_or-requires c x e =
     let t = c.args.self.now in
-    omega (arith, c.from.ensures, ends t.entries t.marks.items c.in-Some.mark _ c.in-Some.ensures t.few t.ok)
+    let s = ends t.entries t.marks.items x _ (rw e at c.newest.ensures) t.few t.ok in
+    search (rules, s)
