@@ -29,7 +29,13 @@ fn replay(rt: &HostRuntime, stack: &str, number: &str, script: &str) -> anyhow::
         Ok(request) => {
             let mut bytes = Vec::new(rt.alloc());
             rt.stdin().take(MOST_BYTES).read_to_end(&mut bytes)?;
-            rt.print(replay_file(rt.alloc(), &bytes, &request)?)?;
+            rt.print(replay_file(
+                rt.alloc(),
+                &bytes,
+                request.stack,
+                request.allowance,
+                &request.calls,
+            )?)?;
         }
     }
     Ok(())

@@ -33,7 +33,13 @@ fn replay_case(rt: &HostRuntime, case: &[String; 4]) -> anyhow::Result<()> {
         }
         Ok(request) => {
             let bytes = fs::read(rt, name.as_str())?;
-            rt.print(replay_file(rt.alloc(), &bytes, &request)?)?;
+            rt.print(replay_file(
+                rt.alloc(),
+                &bytes,
+                request.stack,
+                request.allowance,
+                &request.calls,
+            )?)?;
         }
     }
     Ok(())
