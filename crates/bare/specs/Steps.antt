@@ -117,15 +117,16 @@ module _ {C : Type 0} (p : Network) (start : List ℕ) (bound cost : List ℕ �
         },
       )
 
-  -- the child at the choice
-  pub stepped : {less : C → C → Bool} (root n m : List ℕ) (allowance a : ℕ) (known : Option Status) (k : Status) (c : ℕ × ℕ) → Agrees p (at n allowance) less root known
-      → Ok c ≡ choice_answer (status p.width n) a → m ≡ closure p (narrowed n c.0 c.1 a) → Supported p m → k ≡ status p.width m
-      → (at m allowance ≡ moved (at n allowance) a) × Agrees p (at m allowance) less root (Some k)
+  -- the child at the choice, with no more commits left than before
+  pub stepped : {less : C → C → Bool} (root n m : List ℕ) (allowance less_allowance a : ℕ) (known : Option Status) (k : Status) (c : ℕ × ℕ) → Agrees p (at n allowance) less root known
+      → Ok c ≡ choice_answer (status p.width n) a → m ≡ closure p (narrowed n c.0 c.1 a) → Supported p m → k ≡ status p.width m → less_allowance ≤ allowance
+      → (m ≡ step p n a) × (at m less_allowance ≡ moved (at n less_allowance) a) × Agrees p (at m less_allowance) less root (Some k)
   unfolding step
-  stepped root n m allowance a known k c s h q sup r =
+  stepped root n m allowance less_allowance a known k c s h q sup r f =
       let o = choice_taken (status p.width n) a c h in
       let g : m ≡ step p n a = q ∙ ap (λ (d : ℕ × ℕ). closure p (narrowed n d.0 d.1 a)) (choice_is p.width n c o.0) in (
-        ap (λ (l : List ℕ). at l allowance) g,
+        g,
+        ap (λ (l : List ℕ). at l less_allowance) g,
         record {
           orderly = s.orderly;
           priced = s.priced;
@@ -134,7 +135,7 @@ module _ {C : Type 0} (p : Network) (start : List ℕ) (bound cost : List ℕ �
           kept = s.kept;
           here = ap (proper p.width) g ∙ s.orderly.step_proper n a s.here (c, o.0) o.1;
           remembered = (r, sup);
-          most = s.most;
+          most = omega (arith, s.most, f);
           closed = s.closed;
         },
       )

@@ -5,10 +5,10 @@ use Rattle.std.proofs.lemmas.Bool.{cases_eq, cases_lt, and_parts, and_cases, ltb
 use Rattle.trees.specs.declared.Status.{Status}
 use Rattle.trees.specs.declared.Status.TheVariants.{Failed, Solved, Choice}
 use Rattle.words.specs.Words.{Fit, Lowest}
-use Rattle.nodes.specs.Choosing.{Filled, Empty, Chosen, Says, empty_below, better, fewest, chosen, smallest, status}
+use Rattle.nodes.specs.Choosing.{Filled, Empty, Chosen, Says, empty_below, better, fewest, chosen, smallest, status, rest, reach}
 use Rattle.words.proofs.Bit.{is_lowest}
 use Rattle.nodes.proofs.Emptiness.{empty_from, empty_some, filled_none, none_filled}
-use Rattle.nodes.proofs.Counts.{ones_most, ones_pow, ones_none, filled_ones, one_value}
+use Rattle.nodes.proofs.Counts.{ones_most, ones_pow, ones_none, filled_ones, one_value, rest_pos, reach_pos}
 
 -- ---- the first k words, with the fewest values f, but more than one, at c
 
@@ -56,6 +56,9 @@ picked n (suc k) = picked_step n k (fewest n k) (chosen n k) (better n k (fewest
 -- ---- one turn of the loop
 
 -- ---- what the status says
+
+pub chosen_below : (n : List ℕ) (k : ℕ) → (fewest n k ≡ 33 → ⊥) → chosen n k < k
+chosen_below n k ne = elim (picked n k).place [ inl e ↦ absurd (ne e) | inr q ↦ q.0 ]
 
 pub is_chosen : (w : ℕ) (n : List ℕ) → ((j : ℕ) → j < w → get_or n j 0 < 2 ^ 32) → Filled w n → (fewest n w ≡ 33 → ⊥) → Chosen w n (chosen n w) (smallest w n)
 is_chosen w n s l ne =
@@ -198,3 +201,11 @@ module _ (w : ℕ) (n ws : List ℕ) (thirty_two : length n ≡ 32) (high : w �
       let one : (i : ℕ) → i < w → ones (get_or n i 0) ≡ 1 =
       (λ i l. omega (arith, none i (omega (arith, long)), ap ones (at i l), filled_ones w n full i l)) in
       (sym (ones_solved w n one), one)
+
+-- ---- what is open at a choice
+
+pub choice_rest : (w : ℕ) (n : List ℕ) (c : ℕ × ℕ) → Fit n → status w n ≡ Choice c → 0 < rest w n
+choice_rest w n c f e = let s = choice_chosen w n c f e in rest_pos w n s.0 c.0 s.1.below s.1.several
+
+pub choice_reach : (w : ℕ) (n : List ℕ) (c : ℕ × ℕ) → Fit n → status w n ≡ Choice c → 0 < reach w n
+choice_reach w n c f e = let s = choice_chosen w n c f e in reach_pos w n s.0 c.0 s.1.below s.1.several

@@ -1,6 +1,7 @@
 use Rattle.std.proofs.Common.{◌≡◌, ℕ, zero, suc, ◌+◌, ◌*◌, ◌^◌, ◌<◌, ◌≤◌, Bool, true, false, cond, eqb, ltb, List, length, take, get_or, sym, refl, ap, ◌∙◌, subst, inl, inr, arith, pow_pos}
 use lib.Count.{ones, ones_cat, ones-le, ones-ones, count_trailing_zeros}
 use Rattle.std.proofs.lemmas.Bool.{or_parts, eqb-false, cases_eq, cases_lt, cases_Bool, both_ways, lt-ltb, le-ltb, cond_both, cond-true, cond-false}
+use Rattle.std.proofs.lemmas.Nat.{pow_below}
 use Rattle.std.proofs.lemmas.List.{get_or_past, length-take}
 use Rattle.std.specs.List.{sum_by, count_by}
 use Rattle.std.proofs.lemmas.List.Sums.{sum_by-append}
@@ -18,6 +19,9 @@ ones_none = ones-ones 0
 
 pub ones_pos : (w : ℕ) → (w ≡ 0 → ⊥) → 0 < ones w
 ones_pos w ne = omega (arith, ones_falls 0 w (λ v h. absurd (both_ways (bit 0 v) (bit_zero v) h)) (λ e. ne (sym e)), ones_none)
+
+pub ones_zero : (w : ℕ) → ones w ≡ 0 → w ≡ 0
+ones_zero w e = elim (cases_eq w 0) [ inl z ↦ z | inr ne ↦ absurd (omega (arith, ones_pos w ne)) ]
 
 pub ones_most : (w : ℕ) → w < 2 ^ 32 → ones w ≤ 32
 ones_most w h = ones-le 32 w h
@@ -41,6 +45,9 @@ one_value w h e =
       | inl s ↦ sym s
       | inr ne ↦ absurd (omega (arith, ones_pow v, ones_falls (2 ^ v) w (λ u b. ap (bit w) (pow_value v u b) ∙ there) ne))
     ]
+
+pub trailing_pow : (v : ℕ) → v < 32 → count_trailing_zeros 32 (2 ^ v) ≡ v
+trailing_pow v l = pow_value v (count_trailing_zeros 32 (2 ^ v)) (trailing_bit 32 (2 ^ v) (pow_pos v) (pow_below v 32 l)).1
 
 -- ---- nodes inside one another
 
@@ -105,6 +112,9 @@ count_mono w m n x y s h = elim (cases_Bool (empty_below w m)) [
     | inr g ↦ omega (arith, cond-false (empty_below w m) 0 x f, cond-false (empty_below w n) 0 y g)
   ]
 ]
+
+pub rest_mono : (w : ℕ) (m n : List ℕ) → Inside m n → rest w m ≤ rest w n
+rest_mono w m n s = count_mono w m n (surplus m w) (surplus n w) s (surplus_mono w m n s)
 
 pub reach_mono : (w : ℕ) (m n : List ℕ) → Inside m n → reach w m ≤ reach w n
 reach_mono w m n s = count_mono w m n (wide m w) (wide n w) s (wide_mono w m n s)

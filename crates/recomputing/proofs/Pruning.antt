@@ -67,7 +67,7 @@ module _ {N C : Type 0} where
   pub pruned_out : (m n : Meaning N C) (l l' : Line) → Dropping m n l l' → false ≡ stale l' → At m m.current n × Agrees n l' × (l' ≡ pruned_line l)
   pruned_out m n l l' i h = (i.0, tight n l'.path l'.depths l'.checks l'.gap i.1 h, pruned_all l'.path l'.depths l'.checks l'.gap i.1.checks h ∙ i.2)
 
-  loosened : (m : Meaning N C) (l l' : Line) → Agrees m l → l' ≡ released l → Loose m l'
+  pub loosened : (m : Meaning N C) (l l' : Line) → Agrees m l → l' ≡ released l → Loose m l'
   loosened m l l' s e = rw e record { legal = s.legal; here = s.here; depths = rest_descends (length l.path) l.depths s.depths; checks = descends_more (top l.depths) (length l.path) l.checks s.checks (top_bound (length l.path) l.depths s.depths); below = s.below }
 
   older_nodes : (m : Meaning N C) (p ds cs : List ℕ) (g : ℕ) (x : N) (older : List N) → nodes m.tree p ds ≡ x ∷ older → (nodes m.tree p (rest_of ds) ≡ older) × (pruned_line (released (record { path = p; depths = ds; checks = cs; gap = g })) ≡ forgotten_line (record { path = p; depths = ds; checks = cs; gap = g }))

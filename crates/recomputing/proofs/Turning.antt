@@ -31,7 +31,7 @@ module _ {N C : Type 0} where
   back_at m p [] e = back_none m e
   back_at m p (x ∷ cs) e = back_some m _ _ e
 
-  redoable : (m n : Meaning N C) (l : Line) (from to : ℕ) → Agrees m l → n ≡ gone_back m → from ≡ top l.checks → to ≡ top l.depths → Redoable n l.path from to
+  pub redoable : (m n : Meaning N C) (l : Line) (from to : ℕ) → Agrees m l → n ≡ gone_back m → from ≡ top l.checks → to ≡ top l.depths → Redoable n l.path from to
   redoable m n l from to s e f h =
       let b = back_at m l.path l.checks s.below in
       rw (e, b, f, h) record {

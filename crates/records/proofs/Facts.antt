@@ -1,11 +1,11 @@
 -- What a file that passes all checks has: for the crates that read one.
-use Rattle.std.proofs.Common.{◌≡◌, ℕ, zero, suc, ◌+◌, ◌-◌, ◌<◌, ◌≤◌, ◌⊎◌, List, length, get_or, refl, ◌∙◌, inl, inr, arith}
+use Rattle.std.proofs.Common.{◌≡◌, ℕ, zero, suc, ◌+◌, ◌-◌, ◌<◌, ◌≤◌, ◌⊎◌, List, length, get_or, pos, refl, ◌∙◌, inl, inr, arith}
 use Rattle.std.proofs.lemmas.Bool.Decides.{nat_tests}
 use Rattle.std.proofs.lemmas.List.{get_or-take, length-take, length-drop}
 use Rattle.records.specs.Checks.{line, count, whole_code, variables, table_code, sum_code, sum_width, LawfulTable, LawfulSum}
 use Rattle.records.specs.Tables.{variable_count, table_count, start_word, table_x, table_y}
 use Rattle.records.specs.Sums.{sum_count, objective_at, coefficient_at, least_at, Small, Moderate}
-use Rattle.records.proofs.Lines.{Variable, Pair, table_line, Objective, Sum, objective_line, sum_line, limited_at, small, moderate}
+use Rattle.records.proofs.Lines.{Variable, Pair, table_line, Objective, Sum, objective_line, sum_line, limited_at, small, moderate, tail_none}
 
 -- each record has its 136 bytes
 pub line_size : (bs : List ℕ) (k : ℕ) → k < count bs → length (line bs k) ≡ 136
@@ -87,6 +87,12 @@ pub variables_few : (bs : List ℕ) → LawfulTable bs → variable_count bs ≤
 unfolding variable_count
 variables_few bs h = at_most_32 bs (count bs) h (omega arith)
 
+pub all_records : (bs : List ℕ) → LawfulTable bs → variable_count bs + table_count bs ≡ count bs
+all_records bs h = omega (arith, variables_below bs h)
+
+pub tables_few : (bs : List ℕ) → LawfulTable bs → table_count bs ≤ 399
+tables_few bs h = omega (arith, few_records bs h.0, variables_some bs h)
+
 variable_at : (bs : List ℕ) (i : ℕ) → LawfulTable bs → i < variable_count bs → Variable (line bs i) i (variables bs i)
 unfolding variable_count
 variable_at bs i h l =
@@ -133,7 +139,7 @@ objective_is : (bs : List ℕ) → LawfulSum bs → Objective (line bs 0) (sum_w
 unfolding sum_code
 objective_is bs h = objective_line (line bs 0) (sum_width bs) (h.1 0 (some_records bs h.0))
 
-sum_is : (bs : List ℕ) (k : ℕ) → LawfulSum bs → k < sum_count bs → Sum (line bs (k + 1))
+sum_is : (bs : List ℕ) (k : ℕ) → LawfulSum bs → k < sum_count bs → Sum (line bs (k + 1)) (sum_width bs)
 unfolding sum_code
 sum_is bs k h l = sum_line (line bs (k + 1)) (k + 1) (sum_width bs) (omega arith) (h.1 (k + 1) (omega arith))
 
@@ -150,7 +156,10 @@ first_kind bs h = let k = (objective_is bs h).kind in let t = get_or-take 136 bs
 pub few_sum_records : (bs : List ℕ) → LawfulSum bs → count bs ≤ 65
 few_sum_records bs h = let w = h.0 in let k = first_kind bs h in grind (arith, nat_tests)
 
--- its numbers are within their limits
+pub sums_few : (bs : List ℕ) → LawfulSum bs → sum_count bs ≤ 64
+sums_few bs h = omega (arith, few_sum_records bs h)
+
+-- its numbers are within their limits, and the coefficients past its variables are 0
 pub objective_small : (bs : List ℕ) (i : ℕ) → LawfulSum bs → i < 32 → Small (objective_at bs i)
 unfolding objective_at
 objective_small bs i h l = small _ (limited_at (line bs 0) 32 i (objective_is bs h).small l)
@@ -162,3 +171,11 @@ coefficient_small bs k i h l m = small _ (limited_at (line bs (k + 1)) 32 i (sum
 pub least_moderate : (bs : List ℕ) (k : ℕ) → LawfulSum bs → k < sum_count bs → Moderate (least_at bs k)
 unfolding least_at
 least_moderate bs k h l = moderate _ (sum_is bs k h l).least
+
+pub objective_none : (bs : List ℕ) (i : ℕ) → LawfulSum bs → sum_width bs ≤ i → objective_at bs i ≡ pos 0
+unfolding objective_at
+objective_none bs i h l = tail_none (line bs 0) (sum_width bs) i (objective_is bs h).tail l
+
+pub coefficient_none : (bs : List ℕ) (k i : ℕ) → LawfulSum bs → k < sum_count bs → sum_width bs ≤ i → coefficient_at bs k i ≡ pos 0
+unfolding coefficient_at
+coefficient_none bs k i h l m = tail_none (line bs (k + 1)) (sum_width bs) i (sum_is bs k h l).tail m

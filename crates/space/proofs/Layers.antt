@@ -1,7 +1,8 @@
-use Rattle.std.proofs.Common.{ℕ, ◌+◌, ◌≤◌, Bool, List, length}
+use Rattle.std.proofs.Common.{◌≡◌, ℕ, ◌+◌, ◌≤◌, Bool, true, false, cond, List, length, refl}
 use native.Mathlib.Nat.{min-le_right}
-use Rattle.space.specs.Meaning.{Meaning}
+use Rattle.space.specs.Meaning.{Meaning, spent, moved}
 use Rattle.space.specs.Laws.{Lawful, AllProper}
+use Rattle.space.specs.Calls.{done, commit_answer, committed, redo_answer, redone}
 use Rattle.space.specs.Layers.{layered}
 
 module _ {N C : Type 0} where
@@ -20,3 +21,14 @@ module _ {N C : Type 0} where
     allowance = w.allowance;
     layer = min-le_right (m.layer + 1) 255;
   }
+
+  cond_layered : (b : Bool) (m n : Meaning N C) (capacity : ℕ) (held : List N) → cond b (layered n capacity held) (layered m capacity held) ≡ layered (cond b n m) capacity held
+  cond_layered true m n capacity held = refl
+  cond_layered false m n capacity held = refl
+
+  -- a step of the layer is a step below
+  pub committed_layered : (m : Meaning N C) (a capacity : ℕ) (held : List N) → committed (layered m capacity held) a ≡ layered (committed m a) capacity held
+  committed_layered m a capacity held = cond_layered (done (commit_answer m a)) m (spent (moved m a)) capacity held
+
+  pub redone_layered : (m : Meaning N C) (a capacity : ℕ) (held : List N) → redone (layered m capacity held) a ≡ layered (redone m a) capacity held
+  redone_layered m a capacity held = cond_layered (done (redo_answer m a)) m (moved m a) capacity held

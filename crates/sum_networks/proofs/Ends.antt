@@ -99,6 +99,9 @@ most_le c a b x y f p q = let P : ℤ → Type 0 = (λ z. z ≤ℤ y) in subst P
 pub least_le : (c : ℤ) (a b : ℕ) (x y : ℤ) → ((v : ℕ) → bit a v ≡ true → bit b v ≡ true) → Least c a x → Least c b y → y ≤ℤ x
 least_le c a b x y f p q = let P : ℤ → Type 0 = (λ z. y ≤ℤ z) in subst P (sym p.is) (q.bound p.value (f p.value p.there))
 
+pub most_unique : (c : ℤ) (w : ℕ) (a b : ℤ) → Most c w a → Most c w b → a ≡ b
+most_unique c w a b x y = omega (arith, ints, most_le c w w a b (λ v h. h) x y, most_le c w w b a (λ v h. h) y x)
+
 -- a word that is not 0 has no fewer values than none
 pub filled_up : (a b : ℕ) → ((v : ℕ) → bit a v ≡ true → bit b v ≡ true) → (a ≡ 0 → ⊥) → b ≡ 0 → ⊥
 filled_up a b f ne = let s = some_bit a ne in not_zero b s.0 (f s.0 s.1)

@@ -18,9 +18,10 @@ impl Trace {
         self.depths.last().copied().unwrap_or(0)
     }
 
-    /// The depth of the deepest checkpoint; 0 when there is none.
+    /// The depth of the deepest checkpoint; 0 when there is none. There are at most 32.
     pub fn deepest(&self) -> u16
-        ensures { result ≡ top self.now.checks }
+        ensures value { result ≡ top self.now.checks }
+        ensures few { length self.now.checks ≤ 32 }
     {
         self.checks.last().copied().unwrap_or(0)
     }
@@ -33,9 +34,10 @@ impl Trace {
         self.depths.last().copied() < self.checks.last().copied()
     }
 
-    /// Step `k` of the path, and 0 past its end.
+    /// Step `k` of the path, and 0 past its end. The path has at most 992 steps.
     pub fn alternative(&self, k: u16) -> u8
-        ensures { result ≡ slice_index self.now.path k }
+        ensures value { result ≡ slice_index self.now.path k }
+        ensures short { length self.now.path ≤ 992 }
     {
         self.path.get(usize::from(k)).copied().unwrap_or(0)
     }

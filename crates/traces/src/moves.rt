@@ -1,4 +1,4 @@
-ghost use Rattle.std.specs.Prelude.{◌≡◌};
+ghost use Rattle.std.specs.Prelude.{◌≡◌, ◌<◌, ◌≤◌};
 ghost use Rattle.traces.specs.Lines.{blank, gap_within, stepped_if_room, held_if_room, checked_if_room, released, unchecked, cut, due};
 
 use super::Trace;
@@ -33,9 +33,10 @@ impl Trace {
         let _ = self.path.try_push(alternative);
     }
 
-    /// Whether the count of held nodes is a multiple of the gap.
+    /// Whether the count of held nodes is a multiple of the gap, which is from 1 to 32.
     pub fn due(&self) -> bool
-        ensures { result ≡ due self.now }
+        ensures value { result ≡ due self.now }
+        ensures gap { (0 < self.now.gap) × (self.now.gap ≤ 32) }
     {
         self.held() % self.gap == 0
     }

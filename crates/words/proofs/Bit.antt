@@ -119,6 +119,10 @@ trailing_bit zero w h l = absurd (omega arith)
 trailing_bit (suc k) w h l =
     low_bit k w (w % 2) (count_trailing_zeros k (w / 2)) refl (λ e. trailing_bit k (w / 2) (omega arith) (omega (arith, pow-suc 2 k)))
 
+-- a word with no bit is 0
+pub bit_none : (w : ℕ) → ((v : ℕ) → bit w v ≡ false) → w ≡ 0
+bit_none w e = bit_ext w 0 (λ v. e v ∙ sym (bit_zero v))
+
 -- bits past the width
 pub bit_past : (k w v : ℕ) → w < 2 ^ k → k ≤ v → bit w v ≡ false
 unfolding bit
@@ -242,6 +246,13 @@ is_without w v m o = record {
   where
     gone : (u : ℕ) → (u ≡ v → ⊥) → bit m u ≡ false
     gone u ne = elim (cases_Bool (bit m u)) [ inl t ↦ absurd (ne (o.alone u t)) | inr f ↦ f ]
+
+-- a word falls as a number when a value is taken away: the measure of a loop over its values
+pub without_less : (w v r : ℕ) → Without w v r → bit w v ≡ true → r < w
+without_less w v r o h =
+    let le : r ≤ w = subset_le r w (λ u b. (o.only u b).0) in
+    let ne : r ≡ w → ⊥ = (λ e. (o.only v (ap (λ (x : ℕ). bit x v) e ∙ h)).1 refl) in
+    omega arith
 
 top_bit : (a j : ℕ) → 2 ^ j ≤ a → a < 2 ^ suc j → bit a j ≡ true
 unfolding bit
