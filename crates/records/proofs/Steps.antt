@@ -1,8 +1,8 @@
-use Rattle.std.proofs.Common.{◌≡◌, ℕ, ◌+◌, ◌*◌, ◌<◌, true, cond, ◌&&◌, eqb, List, get_or, drop, refl, sym, add-one, zero, suc, Bool, [], ◌∷◌, take, ap, ◌∙◌, arith}
+use Rattle.std.proofs.Common.{◌≡◌, ℕ, ◌+◌, ◌*◌, ◌<◌, true, cond, ◌&&◌, eqb, List, length, get_or, drop, refl, sym, add-one, zero, suc, Bool, [], ◌∷◌, take, ap, ◌∙◌, arith}
 use Rattle.std.proofs.Math.Bool.{and-true, and_assoc}
-use Rattle.std.specs.List.{fold}
+use Rattle.std.specs.List.{fold, list_all}
 use Rattle.std.specs.Simd.{first_chunks}
-use Rattle.std.proofs.lemmas.List.{drop-drop}
+use Rattle.std.proofs.lemmas.List.{at_drop_more, drop-drop}
 use Rattle.records.specs.Words.{signed}
 use Rattle.records.specs.Checks.{line, count, zeros, within, limited, variables, table_line_code, table_code, sum_line_code, sum_width, sum_code}
 use Rattle.records.specs.Tables.{variable_count}
@@ -38,6 +38,9 @@ pub limited_none : (l : List ℕ) → limited l 0 ≡ true
 unfolding limited
 limited_none l = refl
 
+pub zeros_more : (s : List ℕ) (i : ℕ) → i < length s → zeros (drop i s) ≡ (eqb (get_or s i 0) 0 && zeros (drop (i + 1) s))
+zeros_more s i h = at_drop_more zeros s i 0 h
+
 pub width_read : (bs l : List ℕ) → l ≡ line bs 0 → get_or l 1 0 ≡ sum_width bs
 unfolding sum_width
 width_read bs l e = cc
@@ -53,3 +56,19 @@ chunk_at n zero (suc m) xs h = let e : n * 0 ≡ 0 = omega arith in rw e
 chunk_at n (suc k) (suc m) xs h =
     let e : n * suc k ≡ n + n * k = omega arith in
     rw e (chunk_at n k m (drop n xs) (omega arith) ∙ ap (take n) (drop-drop (n * k) n xs))
+
+pub zeros_split : (n : ℕ) (s : List ℕ) → zeros s ≡ (zeros (take n s) && zeros (drop n s))
+zeros_split zero s = refl
+zeros_split (suc n) [] = refl
+zeros_split (suc n) (x ∷ s) = ap (λ b. eqb x 0 && b) (zeros_split n s) ∙ sym (and_assoc (eqb x 0) (zeros (take n s)) (zeros (drop n s)))
+
+-- a list is all 0 just where its first m blocks are, and what is behind them
+zeros_chunks : (n m : ℕ) (s : List ℕ) → zeros s ≡ (list_all zeros (first_chunks n m s) && zeros (drop (m * n) s))
+zeros_chunks n zero s = let e : 0 * n ≡ 0 = omega arith in rw e
+zeros_chunks n (suc m) s =
+    let e : suc m * n ≡ n + m * n = omega arith in
+    rw (e, ← drop-drop (m * n) n s)
+    (zeros_split n s ∙ ap (λ b. zeros (take n s) && b) (zeros_chunks n m (drop n s)) ∙ sym (and_assoc (zeros (take n s)) (list_all zeros (first_chunks n m (drop n s))) (zeros (drop (m * n) (drop n s)))))
+
+pub zeros_by_blocks : (n m : ℕ) (s rest : List ℕ) (blocks : List (List ℕ)) → blocks ≡ first_chunks n m s → rest ≡ drop (m * n) s → zeros s ≡ (list_all zeros blocks && zeros rest)
+zeros_by_blocks n m s rest blocks e f = rw (e, f) (zeros_chunks n m s)

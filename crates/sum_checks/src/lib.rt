@@ -16,6 +16,8 @@ fn is_within(z: i32, most: u32) -> bool
 }
 
 /// Whether all 32 coefficients of a record are within their limit; without an early end, so that many are looked at in one step.
+// always inlined: a call would save and read again what the loop of `check` holds
+#[inline(always)]
 fn coefficients_fit(line: &Line) -> bool
     ensures { result ≡ limited line.now 32 }
 {

@@ -26,7 +26,11 @@ impl<'a> Sums<'a> {
         ensures support { (k : ℕ) → SupportLaw (sum_at (bytes_of view.entry) k) (sum_width (bytes_of view.entry)) }
         ensures bounded { BoundLaw (objective_at (bytes_of view.entry)) (sum_width (bytes_of view.entry)) }
     {
-        let touched = array::from_fn(|k| touched_by(&view, k));
+        // by index, for the sums of the file alone: an iterator over the array costs more where they are few
+        let mut touched = [0; 64];
+        for k in 0..view.sums() {
+            touched[k] = touched_by(&view, k);
+        }
         Sums { view, touched }
     }
 }

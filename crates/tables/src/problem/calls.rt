@@ -15,7 +15,6 @@ use files::TableView;
 use nodes::Node;
 use problems::Problem;
 use propagation::Constraints;
-use std::array;
 use words::{change, only};
 
 impl<'a> Tables<'a> {
@@ -74,7 +73,11 @@ impl<'a> Problem for Tables<'a> {
     ghost less = { less };
 
     fn start(&self) -> Node {
-        let words = array::from_fn(|i| self.view.start(i).unwrap_or(0));
+        // by index, for the variables of the file alone: an iterator over the array costs more where they are few
+        let mut words = [0; 32];
+        for i in 0..self.view.variables() {
+            words[i] = self.view.start(i).unwrap_or(0);
+        }
         Node { words }
     }
 
