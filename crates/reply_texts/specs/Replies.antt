@@ -1,9 +1,9 @@
-use Rattle.std.specs.Prelude.{ℕ, List, [], ◌∷◌, ◌++◌, Ok, Err, codes, decimal}
+use Rattle.std.specs.Prelude.{ℕ, List, [], ◌∷◌, ◌++◌, codes, decimal}
 use Rattle.std.specs.List.{flat_map}
 use Rattle.trees.specs.Texts.{status_text}
 use Rattle.space.specs.Texts.{refusal_text}
-use Rattle.runs.specs.declared.calls.Reply.TheVariants.{Done, Node, Cost, Number}
-use Rattle.runs.specs.Runs.{Answer}
+use Rattle.runs.specs.declared.calls.Answer.{Answer}
+use Rattle.runs.specs.declared.calls.Answer.TheVariants.{Done, Node, Cost, Number, Refused}
 
 -- the end of a line
 abbrev pub end : List ℕ
@@ -15,11 +15,11 @@ pair_text c = decimal c.0 ++ (codes "/" ++ decimal c.1)
 
 -- what an answer prints, with costs written by `cost`
 abbrev pub printed : {C : Type 0} → (C → List ℕ) → Answer C → List ℕ
-printed cost (Ok Done) = codes "done"
-printed cost (Ok (Node s)) = status_text s
-printed cost (Ok (Cost c)) = cost c
-printed cost (Ok (Number n)) = decimal n
-printed cost (Err e) = refusal_text e
+printed cost Done = codes "done"
+printed cost (Node s) = status_text s
+printed cost (Cost c) = cost c
+printed cost (Number n) = decimal n
+printed cost (Refused e) = refusal_text e
 
 -- its line
 abbrev pub answer_text : {C : Type 0} → (C → List ℕ) → Answer C → List ℕ

@@ -6,7 +6,7 @@ ghost use Rattle.std.specs.Fmt.{WritesOnOk, signed_decimal};
 ghost use Rattle.std.proofs.Common.{rules};
 ghost use Rattle.reply_texts.specs.Replies.{answers_text, pair_text, printed};
 
-use runs::calls::{Answer, Reply};
+use runs::calls::Answer;
 use std::alloc::{AllocError, Global};
 use std::fmt;
 
@@ -75,7 +75,7 @@ impl Shown for (u32, u32) {
     }
 }
 
-/// An answer, as it prints: a `Result` has no `Display`.
+/// An answer, as it prints.
 #[derive(Drop)]
 struct Printed<'a, C>(&'a Answer<C>);
 
@@ -84,11 +84,11 @@ impl<'a, C: Shown> fmt::Display for Printed<'a, C> {
 
     fn fmt<W: fmt::Write>(&self, f: &mut fmt::Formatter<W>) -> fmt::Result {
         match self.0 {
-            Ok(Reply::Done) => f.write_str("done"),
-            Ok(Reply::Node(status)) => status.fmt(f),
-            Ok(Reply::Cost(cost)) => cost.show(f),
-            Ok(Reply::Number(number)) => number.fmt(f),
-            Err(refusal) => refusal.fmt(f),
+            Answer::Done => f.write_str("done"),
+            Answer::Node(status) => status.fmt(f),
+            Answer::Cost(cost) => cost.show(f),
+            Answer::Number(number) => number.fmt(f),
+            Answer::Refused(refusal) => refusal.fmt(f),
         }
     }
 }

@@ -4,34 +4,30 @@ use Rattle.space.specs.Meaning.{Meaning, fresh, status_now}
 use Rattle.space.specs.Calls.{bound_answer, commit_answer, committed, forgotten, mark_answer, marked, redo_answer, redone, restored, turn_answer, word_answer}
 use Rattle.runs.specs.declared.calls.Call.{Call}
 use Rattle.runs.specs.declared.calls.Call.TheVariants.{Status, Bound, Word, Width, Capacity, Allowance, Layer, Held, Commit, Redo, Mark, Restore, Forget, Reset}
-use Rattle.runs.specs.declared.calls.Reply.{Reply}
-use Rattle.runs.specs.declared.calls.Reply.TheVariants.{Done, Node, Cost, Number}
+use Rattle.runs.specs.declared.calls.Answer.{Answer}
+use Rattle.runs.specs.declared.calls.Answer.TheVariants.{Done, Node, Cost, Number, Refused}
 
--- a reply, or a refusal
-abbrev pub Answer : Type 0 → Type 0
-Answer C = Result (Reply C) Refusal
-
--- the reply made of what was given, or the refusal
-abbrev pub told : {T C : Type 0} → (T → Reply C) → Result T Refusal → Answer C
-told f (Ok x) = Ok (f x)
-told f (Err e) = Err e
+-- the answer made of what was given, or the refusal
+abbrev pub told : {T C : Type 0} → (T → Answer C) → Result T Refusal → Answer C
+told f (Ok x) = f x
+told f (Err e) = Refused e
 
 -- what a plain space answers to a call
 abbrev pub reply : {N C : Type 0} → Meaning N C → Call → Answer C
-reply m Status = Ok (Node (status_now m))
+reply m Status = Node (status_now m)
 reply m Bound = told Cost (bound_answer m)
 reply m (Word i) = told Number (word_answer m i)
-reply m Width = Ok (Number m.width)
-reply m Capacity = Ok (Number m.capacity)
-reply m Allowance = Ok (Number m.allowance)
-reply m Layer = Ok (Number m.layer)
-reply m Held = Ok (Number (length m.held))
+reply m Width = Number m.width
+reply m Capacity = Number m.capacity
+reply m Allowance = Number m.allowance
+reply m Layer = Number m.layer
+reply m Held = Number (length m.held)
 reply m (Commit a) = told (λ _. Done) (commit_answer m a)
 reply m (Redo a) = told (λ _. Done) (redo_answer m a)
 reply m Mark = told (λ _. Done) (mark_answer m)
 reply m Restore = told (λ _. Done) (turn_answer m)
 reply m Forget = told (λ _. Done) (turn_answer m)
-reply m Reset = Ok Done
+reply m Reset = Done
 
 -- the plain space after the call; a refused one leaves it as it was
 abbrev pub after : {N C : Type 0} → Meaning N C → Call → Meaning N C

@@ -20,14 +20,13 @@ pub enum Call {
     Reset,
 }
 
-/// What a space replies to a call that it does not refuse.
+/// What a space answers to a call: a reply, or a refusal.
+// One enum: as a `Result` of replies an answer would take half as much memory again.
 #[derive(Clone, Copy)]
-pub enum Reply<C> {
+pub enum Answer<C> {
     Done,
     Node(Status),
     Cost(C),
     Number(u64),
+    Refused(Refusal),
 }
-
-/// What a space answers to a call.
-pub type Answer<C> = Result<Reply<C>, Refusal>;

@@ -3,9 +3,11 @@
 
 ghost use Rattle.std.specs.Prelude.{◌≡◌, MatchResult};
 ghost use Rattle.runs.specs.Runs.{AnswersAsPlain, after, reply};
+ghost use Rattle.runs.specs.declared.calls.Answer.TheVariants.{Refused};
 
-use calls::{Answer, Call, Reply};
+use calls::{Answer, Call};
 use space::Space;
+use space::refusal::Refusal;
 use std::alloc::{AllocError, Global};
 
 pub mod calls;
@@ -14,38 +16,46 @@ pub mod calls;
 pub fn ask<S: Space>(space: &mut S, call: Call) -> Answer<S::Cost>
     ensures { (result ≡ reply (S.Space.meaning space.old) call) × (S.Space.meaning space.new ≡ after (S.Space.meaning space.old) call) }
 {
+    make(space, call).unwrap_or_else(|refusal| Answer::Refused(refusal))
+}
+
+/// Makes one call; a refusal is told apart.
+fn make<S: Space>(space: &mut S, call: Call) -> Result<Answer<S::Cost>, Refusal>
+    ensures answer { MatchResult result (λ a. a ≡ reply (S.Space.meaning space.old) call) (λ e. Refused e ≡ reply (S.Space.meaning space.old) call) }
+    ensures after { S.Space.meaning space.new ≡ after (S.Space.meaning space.old) call }
+{
     Ok(match call {
-        Call::Status => Reply::Node(space.status()),
-        Call::Bound => Reply::Cost(space.bound()?),
-        Call::Word(i) => Reply::Number(u64::from(space.word(i)?)),
-        Call::Width => Reply::Number(u64::from(space.width())),
-        Call::Capacity => Reply::Number(u64::from(space.capacity())),
-        Call::Allowance => Reply::Number(space.allowance()),
-        Call::Layer => Reply::Number(u64::from(space.layer())),
-        Call::Held => Reply::Number(u64::from(space.held())),
+        Call::Status => Answer::Node(space.status()),
+        Call::Bound => Answer::Cost(space.bound()?),
+        Call::Word(i) => Answer::Number(u64::from(space.word(i)?)),
+        Call::Width => Answer::Number(u64::from(space.width())),
+        Call::Capacity => Answer::Number(u64::from(space.capacity())),
+        Call::Allowance => Answer::Number(space.allowance()),
+        Call::Layer => Answer::Number(u64::from(space.layer())),
+        Call::Held => Answer::Number(u64::from(space.held())),
         Call::Commit(alternative) => {
             space.commit(alternative)?;
-            Reply::Done
+            Answer::Done
         }
         Call::Redo(alternative) => {
             space.redo(alternative)?;
-            Reply::Done
+            Answer::Done
         }
         Call::Mark => {
             space.mark()?;
-            Reply::Done
+            Answer::Done
         }
         Call::Restore => {
             space.restore()?;
-            Reply::Done
+            Answer::Done
         }
         Call::Forget => {
             space.forget()?;
-            Reply::Done
+            Answer::Done
         }
         Call::Reset => {
             space.reset();
-            Reply::Done
+            Answer::Done
         }
     })
 }
