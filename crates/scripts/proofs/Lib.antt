@@ -1,5 +1,6 @@
 mod Caps
 mod Names
+mod Words
 mod Taken
 mod Fields
 mod Stacked

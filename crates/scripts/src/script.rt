@@ -1,5 +1,7 @@
-ghost use Rattle.std.specs.Prelude.{◌≡◌, MatchResult};
+ghost use Rattle.std.specs.Prelude.{◌≡◌, [], ◌∷◌, MatchOption, MatchResult, not};
+ghost use Rattle.std.specs.List.{position, position_or_len};
 ghost use Rattle.scripts.specs.Lines.{Refused, Script, numbered_call, plain_call, reading_of};
+ghost use Rattle.scripts.specs.Parts.{is_blank, words};
 ghost use Rattle.scripts.specs.declared.script.ScriptError.TheVariants.{Memory};
 
 use crate::numbers::read_byte;
@@ -53,18 +55,50 @@ fn numbered_call(word: &[u8], number: u8) -> Option<Call>
     }
 }
 
+/// Whether a byte stands between words.
+fn is_blank(byte: u8) -> bool
+    ensures { result ≡ is_blank byte }
+{
+    matches!(byte, b' ' | b'\t' | b'\r')
+}
+
+/// Where the first word of a line begins.
+fn word_start(line: &[u8]) -> Option<usize>
+    ensures { result ≡ position (λ b. not (is_blank b)) line.now }
+{
+    line.iter().position(|byte| !is_blank(*byte))
+}
+
+/// Where the word that a text begins with ends.
+fn word_end(text: &[u8]) -> usize
+    ensures { result ≡ position_or_len is_blank text.now }
+{
+    text.iter()
+        .position(|byte| is_blank(*byte))
+        .unwrap_or(text.len())
+}
+
+/// The first word of a line, and what stands behind it.
+fn next_word(line: &[u8]) -> Option<(&[u8], &[u8])>
+    ensures { MatchOption result (words line.now ≡ []) (λ p. words line.now ≡ p.0.now ∷ words p.1.now) }
+{
+    let rest = &line[word_start(line)?..];
+    Some(rest.split_at(word_end(rest)))
+}
+
 /// What a line says: no call where it has no word, or one; `None` where it is neither.
 fn read_line(line: &[u8]) -> Option<Option<Call>>
     ensures { result ≡ reading_of line.now }
 {
-    let mut words = line
-        .split(|byte| matches!(byte, b' ' | b'\t' | b'\r'))
-        .filter(|word| !word.is_empty());
-    match (words.next(), words.next(), words.next()) {
-        (None, ..) => Some(None),
-        (Some(word), None, _) => plain_call(word).map(Some),
-        (Some(word), Some(number), None) => numbered_call(word, read_byte(number)?).map(Some),
-        _ => None,
+    let Some((word, rest)) = next_word(line) else {
+        return Some(None);
+    };
+    let Some((number, rest)) = next_word(rest) else {
+        return plain_call(word).map(Some);
+    };
+    match next_word(rest) {
+        None => numbered_call(word, read_byte(number)?).map(Some),
+        Some(_) => None,
     }
 }
 
